@@ -1,0 +1,13 @@
+pub mod Tests
+pub mod Lists
+pub mod Computed
+pub mod Sums
+pub mod Joins
+pub mod Xor
+pub mod Each
+pub mod Front
+pub mod Grid
+pub mod Whole
+pub mod Box
+pub mod Dots
+pub mod Marks
