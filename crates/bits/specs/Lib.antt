@@ -1,0 +1,4 @@
+pub mod PackedLaws
+pub mod Fields
+pub mod Bytes
+pub mod Appended

@@ -1,0 +1,54 @@
+// Bits in a lent buffer of bytes, the highest bit of the first byte first.
+ghost use mathlib.Core.Path.{_≡_};
+ghost use Prim.Native.Nat.{_+_, _*_, _^_, _≤_, _<_};
+ghost use lib.ListN.{length, getD, set};
+ghost use Rattle.standard.specs.Bits.{bits, unpack};
+ghost use Rattle.bits.specs.Fields.{field};
+ghost use Rattle.bits.specs.Appended.{Free, Appended};
+
+// Bit i of the buffer.
+pub fn read_bit(buf: &[u8], i: usize) -> u8
+    requires { ⌜ i < 8 * length (now buf) ⌝ }
+    ensures { λ r. ⌜ r ≡ getD (unpack (now (buf .entry))) i 0 ⌝ }
+{
+    (buf[i / 8] >> (7 - i % 8)) & 1
+}
+
+// Stores the bit b at i, where a 0 stands.
+pub fn put_bit(buf: &mut [u8], i: usize, b: u8)
+    requires { ⌜ (i < 8 * length (now buf)) × (b < 2) × (getD (unpack (now buf)) i 0 ≡ 0) ⌝ }
+    ensures { λ r. ⌜ unpack (now (buf .exit)) ≡ set (unpack (now (buf .entry))) i b ⌝ }
+{
+    let k = i / 8;
+    buf[k] |= b << (7 - i % 8);
+}
+
+// Appends the given number of low-order bits of the given value at bit at, from which on zero bits stand,
+// and returns the bit after them.
+pub fn append_bits(buf: &mut [u8], at: usize, val: u32, len: u8) -> usize
+    requires { ⌜ (len ≤ 32) × Free (now buf) at (bits len val) ⌝ }
+    ensures { λ r. ⌜ Appended (now (buf .entry)) (now (buf .exit)) at r (bits len val) ⌝ }
+{
+    let n = len as usize;
+    let mut j: usize = 0;
+    while j < n {
+        put_bit(buf, at + j, ((val >> (n - 1 - j)) & 1) as u8);
+        j += 1;
+    }
+    at + n
+}
+
+// The number that the len bits from bit at on stand for.
+pub fn read_bits(buf: &[u8], at: usize, len: u8) -> u32
+    requires { ⌜ (len ≤ 32) × (at + len ≤ 8 * length (now buf)) × (at + len < 2 ^ 64) ⌝ }
+    ensures { λ r. ⌜ r ≡ field (unpack (now (buf .entry))) at len ⌝ }
+{
+    let n = len as usize;
+    let mut r: u32 = 0;
+    let mut j: usize = 0;
+    while j < n {
+        r = r * 2 + read_bit(buf, at + j) as u32;
+        j += 1;
+    }
+    r
+}

@@ -1,0 +1,86 @@
+-- Laws that the proof of the loop over groups cites: one for each return and for the turn.
+-- Assumes nothing.
+use Prim.Native.Nat.{ℕ, zero, suc, _+_, _-_, _*_, _^_, _≤_, _<_}
+use mathlib.Core.Bool.{true, false}
+use mathlib.Core.Path.{_≡_, refl, sym, ap, ap₂, _∙_, subst}
+use mathlib.Core.List.{List}
+use native.Mathlib.Omega.{arith}
+use lib.Dec.{leb, ltb}
+use borrow.Author.Tests.{lt-ltb, le-ltb, le-leb, lt-leb}
+use lib.ListN.{length}
+use Rattle.standard.specs.Bits.{unpack}
+use Rattle.bits.specs.PackedLaws.{length-unpack}
+use Rattle.bits.specs.Fields.{field}
+use Rattle.segments.specs.Kinds.{base, width}
+use Rattle.segments.specs.Tables.{width-le}
+use Rattle.segments.specs.Runs.{part, part-pos, part-less}
+use Rattle.parser.specs.declared.Groups.{Groups}
+use Rattle.parser.specs.declared.Groups.the-variants.{Next, Fault}
+use Rattle.parser.specs.Runs.{runEnd, runEnd-room, runEnd-short, runEnd-large}
+
+-- more fuel than characters changes nothing
+pub run-fuel : (k : ℕ) (u : List ℕ) (f g at n : ℕ) → n ≤ f → n ≤ g → runEnd k u f at n ≡ runEnd k u g at n
+unfolding runEnd
+run-fuel k u zero zero at n hf hg = refl
+run-fuel k u zero (suc g) at zero hf hg = refl
+run-fuel k u zero (suc g) at (suc n) hf hg = absurd (omega arith)
+run-fuel k u (suc f) zero at zero hf hg = refl
+run-fuel k u (suc f) zero at (suc n) hf hg = absurd (omega arith)
+run-fuel k u (suc f) (suc g) at zero hf hg = refl
+run-fuel k u (suc f) (suc g) at (suc n) hf hg =
+    ap (λ (r : Groups). elim (leb (at + width k (part k (suc n))) (length u)) as (λ _. Groups) [ true ↦ elim (ltb (field u at (width k (part k (suc n)))) (base k ^ part k (suc n))) as (λ _. Groups) [ true ↦ r | false ↦ Fault at ] | false ↦ Fault at ])
+    (run-fuel k u f g (at + width k (part k (suc n))) (suc n - part k (suc n)) (part-less k n f hf) (part-less k n g hg))
+
+module _ (k : ℕ) (u : List ℕ) where
+  turn : (p n : ℕ) → 0 < n → p + width k (part k n) ≤ length u → field u p (width k (part k n)) < base k ^ part k n
+      → runEnd k u n p n ≡ runEnd k u (n - part k n) (p + width k (part k n)) (n - part k n)
+  turn p zero h r s = absurd (omega arith)
+  turn p (suc n) h r s =
+      runEnd-room k u n p n (le-leb (p + width k (part k (suc n))) (length u) r) (lt-ltb (field u p (width k (part k (suc n)))) (base k ^ part k (suc n)) s)
+      ∙ run-fuel k u n (suc n - part k (suc n)) (p + width k (part k (suc n))) (suc n - part k (suc n)) (omega (arith, part-pos k n)) (omega arith)
+
+  short : (p n : ℕ) → 0 < n → length u < p + width k (part k n) → runEnd k u n p n ≡ Fault p
+  short p zero h r = absurd (omega arith)
+  short p (suc n) h r = runEnd-short k u n p n (lt-leb (p + width k (part k (suc n))) (length u) r)
+
+  large : (p n : ℕ) → 0 < n → p + width k (part k n) ≤ length u → base k ^ part k n ≤ field u p (width k (part k n)) → runEnd k u n p n ≡ Fault p
+  large p zero h r s = absurd (omega arith)
+  large p (suc n) h r s =
+      runEnd-large k u n p n (le-leb (p + width k (part k (suc n))) (length u) r) (le-ltb (field u p (width k (part k (suc n)))) (base k ^ part k (suc n)) s)
+
+-- the same with what the callees gave
+module _ (k : ℕ) (buf : List ℕ) (A : Groups) (p n m w : ℕ) (inv : A ≡ runEnd k (unpack buf) n p n) (em : m ≡ part k n) (ew : w ≡ width k m) (pos : 0 < n) where
+  wide : w ≡ width k (part k n)
+  wide = ew ∙ ap (width k) em
+
+  pub run-short : length buf * 8 < p + w → Fault p ≡ A
+  run-short r =
+      let l : length (unpack buf) < p + w = omega (arith, length-unpack buf) in
+      sym (inv ∙ short k (unpack buf) p n pos (subst (λ (j : ℕ). length (unpack buf) < p + j) wide l))
+
+  pub run-large : (x lim : ℕ) → x ≡ field (unpack buf) p w → lim ≡ base k ^ m → p + w ≤ length buf * 8 → lim ≤ x → Fault p ≡ A
+  run-large x lim ex el r s =
+      let l : p + w ≤ length (unpack buf) = omega (arith, length-unpack buf) in
+      let e : x ≡ field (unpack buf) p (width k (part k n)) = ex ∙ ap (field (unpack buf) p) wide in
+      let f : lim ≡ base k ^ part k n = el ∙ ap (λ (j : ℕ). base k ^ j) em in
+      sym (inv ∙ large k (unpack buf) p n pos (subst (λ (j : ℕ). p + j ≤ length (unpack buf)) wide l) (omega arith))
+
+  pub run-next : (x lim : ℕ) → x ≡ field (unpack buf) p w → lim ≡ base k ^ m → p + w ≤ length buf * 8 → x < lim → A ≡ runEnd k (unpack buf) (n - m) (p + w) (n - m)
+  run-next x lim ex el r s =
+      let l : p + w ≤ length (unpack buf) = omega (arith, length-unpack buf) in
+      let e : x ≡ field (unpack buf) p (width k (part k n)) = ex ∙ ap (field (unpack buf) p) wide in
+      let f : lim ≡ base k ^ part k n = el ∙ ap (λ (j : ℕ). base k ^ j) em in
+      inv ∙ turn k (unpack buf) p n pos (subst (λ (j : ℕ). p + j ≤ length (unpack buf)) wide l) (omega arith)
+      ∙ ap₂ (λ (i j : ℕ). runEnd k (unpack buf) (n - i) (p + j) (n - i)) (sym em) (sym wide)
+
+pub run-done : (k : ℕ) (buf : List ℕ) (A : Groups) (p n : ℕ) → A ≡ runEnd k (unpack buf) n p n → n ≤ 0 → Next p ≡ A
+unfolding runEnd
+run-done k buf A p zero e h = sym e
+run-done k buf A p (suc n) e h = absurd (omega arith)
+
+pub width-32 : (k m w : ℕ) → w ≡ width k m → w ≤ 32
+width-32 k m w e = omega (arith, width-le k m)
+
+pub run-less : (k n m : ℕ) → m ≡ part k n → 0 < n → n - m < n
+run-less k zero m e h = absurd (omega arith)
+run-less k (suc n) m e h = omega (arith, part-pos k n)
