@@ -1,0 +1,5 @@
+pub mod Times
+pub mod Reduced
+pub mod Polynomials
+pub mod Generator
+pub mod Division
