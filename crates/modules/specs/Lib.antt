@@ -1,0 +1,12 @@
+pub mod Zigzag
+pub mod Mask
+pub mod Kept
+pub mod Storing
+pub mod Way
+pub mod Trip
+pub mod Work
+pub mod Finished
+pub mod Back
+pub mod Question
+pub mod FormatBack
+pub mod Reading

@@ -1,0 +1,10 @@
+pub mod Layers
+pub mod Shapes
+pub mod FinderLayer
+pub mod FormatPlaces
+pub mod FormatLayer
+pub mod VersionLayer
+pub mod Words
+pub mod Centres
+pub mod AlignmentLayer
+pub mod Everything
