@@ -1,0 +1,9 @@
+pub mod History
+pub mod Windows
+pub mod Scan
+pub mod HistoryLaws
+pub mod Bounds
+pub mod Lines
+pub mod Scanned
+pub mod Squares
+pub mod Choice

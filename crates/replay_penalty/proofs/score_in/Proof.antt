@@ -1,0 +1,44 @@
+-- `replay_penalty::score_in` meets its contract. The side is at most 177.
+-- Assumes nothing.
+use Rattle.penalty.specs.Squares.{side-square}
+use native.Mathlib.Omega.{arith}
+use borrow.Author.Needs.{needs}
+use Rattle.replay_penalty.proofs.score_in.Statement.{statement}
+use Rattle.replay_penalty.proofs.score_in.Tie as tie
+
+mul-n : tie.Need-mul-n
+mul-n c = omega (arith, side-square (c .before .args .side) (omega arith))
+
+returns : tie.Need-returns
+returns c = search needs
+
+sub-score : tie.Need-sub-score
+sub-score c = search needs
+
+part-score-start : tie.Need-part-score-start
+part-score-start c = search needs
+
+part-score-end : tie.Need-part-score-end
+part-score-end c = search needs
+
+score-requires : tie.Need-score-requires
+score-requires c κs = search needs
+
+same-length : tie.Need-same-length
+same-length c = search needs
+
+returns-2 : tie.Need-returns-2
+returns-2 c = search needs
+
+pub score-in-spec : {M : Type 1} → statement M
+score-in-spec =
+    tie.close
+    (tie.spec
+    mul-n
+    returns
+    sub-score
+    part-score-start
+    part-score-end
+    score-requires
+    same-length
+    returns-2)
