@@ -1,0 +1,257 @@
+// The strict reader: what label a grid shows. What is read is drawn again and compared with the whole grid.
+mod check; // check.rt: the first checks
+
+use parser::Counted;
+use types::Mask;
+use types::QrCodeEcc;
+use types::Version;
+ghost use mathlib.Core.Path.{_≡_};
+ghost use Prim.Native.Nat.{_*_, _≤_};
+ghost use lib.ListN.{length, replicate};
+ghost use Rattle.standard.specs.Numbers.{same};
+ghost use Rattle.standard.specs.Sizes.{side, rawCodewords, dataCodewords};
+ghost use Rattle.standard.specs.Blocks.{allWords};
+ghost use Rattle.standard.specs.Grid.{content, grid as gridOf};
+ghost use Rattle.laws.specs.Grid.{Square};
+ghost use Rattle.types.specs.Numbers.{levelOf, IsVersion, IsMask};
+ghost use Rattle.blocks.specs.Undo.{dataOf};
+ghost use Rattle.modules.specs.FormatBack.{readLevel, readMask};
+ghost use Rattle.modules.specs.Back.{readWords};
+ghost use Rattle.standard.specs.Read.{Finds, Reads};
+ghost use Rattle.reader.specs.Answers.{readOf};
+ghost use Rattle.reader.specs.Told.{Tells};
+ghost use Rattle.reader.specs.Recovered.{Looks};
+ghost use Rattle.standard.specs.Encode.{zeroed};
+
+// Why a grid is not read.
+pub enum Refusal {
+    // The side is that of no version.
+    Side(usize),
+    // The grid has not as many bytes.
+    Length(usize),
+    // The byte at this place is above 1.
+    Byte(usize),
+    // Scratch is too short.
+    Scratch,
+    // No label has this grid.
+    NoLabel,
+    // The text buffer is shorter than the text.
+    Text(usize),
+    // The record buffer holds fewer records.
+    Records(usize),
+}
+
+// What a reading answers.
+pub enum Outcome {
+    Refused(Refusal),
+    Label {
+        version: Version,
+        level: QrCodeEcc,
+        mask: Mask,
+        records: usize,
+        text: usize,
+    },
+}
+
+// What the first checks answer: the version, or a refusal.
+pub enum Early {
+    Fine(Version),
+    Refused(Refusal),
+}
+
+/*---- The label ----*/
+
+// Whether two slices of one length have the same bytes.
+fn equal(a: &[u8], b: &[u8]) -> bool
+    requires { ⌜ length (now a) ≡ length (now b) ⌝ }
+    ensures { λ r. ⌜ r ≡ same (now (a .entry)) (now (b .entry)) ⌝ }
+{
+    let mut i: usize = 0;
+    while i < a.len() {
+        if a[i] != b[i] {
+            return false;
+        }
+        i += 1;
+    }
+    true
+}
+
+// Reads the data codewords of a grid into data, with work to draw in and room for all codewords.
+fn read_data(
+    grid: &[u8],
+    ver: Version,
+    ecl: QrCodeEcc,
+    mask: Mask,
+    work: &mut [u8],
+    all: &mut [u8],
+    data: &mut [u8],
+)
+    requires { ⌜ Square (now grid) (side (ver .0)) ⌝ }
+    requires { ⌜ Square (now work) (side (ver .0)) ⌝ }
+    requires { ⌜ IsVersion ver × IsMask mask × (length (now all) ≡ rawCodewords (ver .0)) × (length (now «data») ≡ dataCodewords (ver .0) (levelOf ecl)) ⌝ }
+    ensures { λ _. ⌜ now («data» .exit) ≡ dataOf (ver .0) (levelOf ecl) (readWords (ver .0) (levelOf ecl) (mask .0) (now (grid .entry)) (now (all .entry))) ⌝ }
+{
+    modules::read_codewords(grid, work, ver, ecl, mask, all);
+    blocks::data_words(ver, ecl, all, data);
+}
+
+// Draws data codewords again, check bytes and all, and answers whether that is the whole grid.
+fn draws_again(
+    grid: &[u8],
+    ver: Version,
+    ecl: QrCodeEcc,
+    mask: Mask,
+    data: &[u8],
+    all: &mut [u8],
+    work: &mut [u8],
+) -> bool
+    requires { ⌜ Square (now grid) (side (ver .0)) ⌝ }
+    requires { ⌜ Square (now work) (side (ver .0)) ⌝ }
+    requires { ⌜ IsVersion ver × IsMask mask × (length (now all) ≡ rawCodewords (ver .0)) × (length (now «data») ≡ dataCodewords (ver .0) (levelOf ecl)) ⌝ }
+    ensures { λ r. ⌜ r ≡ same (now (grid .entry)) (gridOf (ver .0) (levelOf ecl) (mask .0) (content (ver .0) (allWords (ver .0) (levelOf ecl) (now («data» .entry))))) ⌝ }
+{
+    blocks::add_ecc_and_interleave(ver, ecl, data, all);
+    modules::draw_label(work, ver, ecl, mask, all);
+    equal(grid, work)
+}
+
+// Parses data codewords strictly, and writes text and records where there is room.
+fn tell(
+    data: &[u8],
+    ver: Version,
+    ecl: QrCodeEcc,
+    mask: Mask,
+    text: &mut [u8],
+    records: &mut [u64],
+) -> Outcome
+    requires { ⌜ IsVersion ver × IsMask mask × (length (now «data») ≡ dataCodewords (ver .0) (levelOf ecl)) ⌝ }
+    ensures { λ r. ⌜ Tells (ver .0) (levelOf ecl) (mask .0) (now («data» .entry)) (now (text .entry)) (now (records .entry)) r (now (text .exit)) (now (records .exit)) ⌝ }
+{
+    let c = parser::count_all(data, ver);
+    match c {
+        Counted::Bad(b) => Outcome::Refused(Refusal::NoLabel),
+        Counted::Read {
+            records: count,
+            text: len,
+        } => {
+            if text.len() < len {
+                return Outcome::Refused(Refusal::Text(len));
+            }
+            if records.len() / 4 < count {
+                return Outcome::Refused(Refusal::Records(count));
+            }
+            parser::write_all(data, ver, text, records);
+            Outcome::Label {
+                version: ver,
+                level: ecl,
+                mask: mask,
+                records: count,
+                text: len,
+            }
+        }
+    }
+}
+
+// Reads a grid at its version, level and mask.
+fn read_words(
+    grid: &[u8],
+    ver: Version,
+    ecl: QrCodeEcc,
+    mask: Mask,
+    text: &mut [u8],
+    records: &mut [u64],
+    work: &mut [u8],
+    all: &mut [u8],
+    data: &mut [u8],
+) -> Outcome
+    requires { ⌜ Square (now grid) (side (ver .0)) ⌝ }
+    requires { ⌜ Square (now work) (side (ver .0)) ⌝ }
+    requires { ⌜ IsVersion ver × IsMask mask × (length (now all) ≡ rawCodewords (ver .0)) × (length (now «data») ≡ dataCodewords (ver .0) (levelOf ecl)) ⌝ }
+    requires { ⌜ (levelOf ecl ≡ readLevel (side (ver .0)) (now grid)) × (mask .0 ≡ readMask (side (ver .0)) (now grid)) ⌝ }
+    ensures { λ r. ⌜ Looks (now (grid .entry)) (now (text .entry)) (now (records .entry)) r (now (text .exit)) (now (records .exit)) ⌝ }
+{
+    read_data(grid, ver, ecl, mask, work, all, data);
+    if !draws_again(grid, ver, ecl, mask, data, all, work) {
+        return Outcome::Refused(Refusal::NoLabel);
+    }
+    tell(data, ver, ecl, mask, text, records)
+}
+
+// Reads a grid of a version, with work to draw in.
+fn read_square(
+    grid: &[u8],
+    ver: Version,
+    text: &mut [u8],
+    records: &mut [u64],
+    work: &mut [u8],
+) -> Outcome
+    requires { ⌜ Square (now grid) (side (ver .0)) ⌝ }
+    requires { ⌜ Square (now work) (side (ver .0)) ⌝ }
+    requires { ⌜ IsVersion ver ⌝ }
+    ensures { λ r. ⌜ Looks (now (grid .entry)) (now (text .entry)) (now (records .entry)) r (now (text .exit)) (now (records .exit)) ⌝ }
+{
+    let ecl = modules::read_level(grid, ver);
+    let mask = types::mask_at(modules::read_mask(grid, ver));
+    let raw = capacity::get_num_raw_data_modules(ver) / 8;
+    let len = capacity::get_num_data_codewords(ver, ecl);
+    let mut all: [u8; 3706] = [0; 3706];
+    let mut data: [u8; 2956] = [0; 2956];
+    read_words(
+        grid,
+        ver,
+        ecl,
+        mask,
+        text,
+        records,
+        work,
+        &mut all[0..raw],
+        &mut data[0..len],
+    )
+}
+
+/*---- The entry ----*/
+
+fn zero(bytes: &mut [u8])
+    ensures { λ _. ⌜ now (bytes .exit) ≡ replicate (length (now (bytes .entry))) 0 ⌝ }
+{
+    for k in 0..bytes.len() {
+        bytes[k] = 0;
+    }
+}
+
+// Reads a grid of a version in scratch, and zeroes that.
+fn read_checked(
+    grid: &[u8],
+    ver: Version,
+    text: &mut [u8],
+    records: &mut [u64],
+    scratch: &mut [u8],
+) -> Outcome
+    requires { ⌜ Square (now grid) (side (ver .0)) ⌝ }
+    requires { ⌜ IsVersion ver × (40000 ≤ length (now scratch)) ⌝ }
+    ensures { λ r. ⌜ Finds (now (grid .entry)) (now (text .entry)) (now (records .entry)) (zeroed (now (scratch .entry))) (readOf r (now (text .exit)) (now (records .exit)) (now (scratch .exit))) ⌝ }
+{
+    let size = patterns::size_of(ver);
+    let area = size * size;
+    let r = read_square(grid, ver, text, records, &mut scratch[0..area]);
+    zero(&mut scratch[0..40000]);
+    r
+}
+
+// Reads the label that a grid shows: its characters into text and its records, four numbers to each (kind, start, length
+// and assign), into records, from the start of both on.
+pub fn read(
+    grid: &[u8],
+    size: usize,
+    text: &mut [u8],
+    records: &mut [u64],
+    scratch: &mut [u8],
+) -> Outcome
+    ensures { λ r. ⌜ Reads (now (grid .entry)) size (now (text .entry)) (now (records .entry)) (now (scratch .entry)) (readOf r (now (text .exit)) (now (records .exit)) (now (scratch .exit))) ⌝ }
+{
+    let e = check::check_first(grid, size, scratch.len());
+    match e {
+        Early::Fine(ver) => read_checked(grid, ver, text, records, scratch),
+        Early::Refused(f) => Outcome::Refused(f),
+    }
+}
