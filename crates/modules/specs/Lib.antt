@@ -1,5 +1,6 @@
 pub mod Zigzag
 pub mod Mask
+pub mod MaskRows
 pub mod Kept
 pub mod Storing
 pub mod Way

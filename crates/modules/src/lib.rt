@@ -1,7 +1,9 @@
 // Data modules in the work grid of `patterns`: codewords along the zigzag, masks, and the finished grid.
+mod mask; // mask.rt: the eight masks
 mod question; // question.rt: one module of a grid
 mod read; // read.rt: level, mask and codewords are read back
 
+pub use mask::apply_mask;
 pub use question::get_module;
 pub use read::read_codewords;
 pub use read::read_level;
@@ -15,85 +17,12 @@ ghost use lib.ListN.{length, replicate};
 ghost use Rattle.standard.specs.Sizes.{side};
 ghost use Rattle.standard.specs.Format.{formatWord};
 ghost use Rattle.standard.specs.Path.{right, height};
-ghost use Rattle.standard.specs.Masks.{inverts};
 ghost use Rattle.standard.specs.Grid.{content, grid as gridOf};
-ghost use Rattle.laws.specs.Grid.{Square, paint};
-ghost use Rattle.laws.specs.Whole.{atCell};
+ghost use Rattle.laws.specs.Grid.{Square};
 ghost use Rattle.laws.specs.Each.{each};
 ghost use Rattle.types.specs.Numbers.{levelOf, IsVersion, IsMask};
-ghost use Rattle.modules.specs.Mask.{flip, masked};
 ghost use Rattle.modules.specs.Zigzag.{bitOf, Laid, Laid.laid, layAt, walk, drawn};
 ghost use Rattle.modules.specs.Work.{work};
-
-/*---- Masks ----*/
-
-// Whether the mask inverts the module in column x and row y.
-fn inverted(mask: u8, x: usize, y: usize) -> bool
-    requires { ⌜ (mask ≤ 7) × (x < 177) × (y < 177) ⌝ }
-    ensures { λ r. ⌜ r ≡ inverts mask x y ⌝ }
-{
-    let xy = x * y;
-    match mask {
-        0 => (x + y) % 2 == 0,
-        1 => y % 2 == 0,
-        2 => x % 3 == 0,
-        3 => (x + y) % 3 == 0,
-        4 => (x / 3 + y / 2) % 2 == 0,
-        5 => xy % 2 + xy % 3 == 0,
-        6 => (xy % 2 + xy % 3) % 2 == 0,
-        7 => ((x + y) % 2 + xy % 3) % 2 == 0,
-        _ => false,
-    }
-}
-
-// A data module is inverted, a function module never is.
-fn flipped(invert: bool, v: u8) -> u8
-    ensures { λ r. ⌜ r ≡ flip invert v ⌝ }
-{
-    if invert {
-        if v < 2 { 1 - v } else { v }
-    } else {
-        v
-    }
-}
-
-// Masks the module (x, y).
-fn mask_module(grid: &mut [u8], size: usize, mask: u8, x: usize, y: usize)
-    requires { ⌜ Square (now grid) size ⌝ }
-    requires { ⌜ (mask ≤ 7) × (x < size) × (y < size) ⌝ }
-    ensures { λ _. ⌜ now (grid .exit) ≡ paint size (atCell x y (masked mask)) (now (grid .entry)) ⌝ }
-{
-    let at = patterns::place(size, x, y);
-    grid[at] = flipped(inverted(mask, x, y), grid[at]);
-}
-
-// Masks every module.
-fn mask_modules(grid: &mut [u8], size: usize, mask: u8)
-    requires { ⌜ Square (now grid) size ⌝ }
-    requires { ⌜ mask ≤ 7 ⌝ }
-    ensures { λ _. ⌜ now (grid .exit) ≡ paint size (masked mask) (now (grid .entry)) ⌝ }
-{
-    for y in 0..size {
-        for x in 0..size {
-            mask_module(grid, size, mask, x, y);
-        }
-    }
-}
-
-// XORs the codeword modules in this QR Code with the given mask pattern.
-// The function modules must be marked and the codeword bits must be drawn
-// before masking. Due to the arithmetic of XOR, calling apply_mask() with
-// the same mask value a second time will undo the mask. A final well-formed
-// QR Code needs exactly one (not zero, two, etc.) mask applied.
-pub fn apply_mask(grid: &mut [u8], ver: Version, mask: Mask)
-    requires { ⌜ Square (now grid) (side (ver .0)) ⌝ }
-    requires { ⌜ IsVersion ver × IsMask mask ⌝ }
-    ensures { λ _. ⌜ now (grid .exit) ≡ paint (side (ver .0)) (masked (mask .0)) (now (grid .entry)) ⌝ }
-{
-    let size = patterns::size_of(ver);
-    let m = mask.value();
-    mask_modules(grid, size, m);
-}
 
 /*---- Codewords ----*/
 

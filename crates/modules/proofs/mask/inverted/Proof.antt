@@ -7,8 +7,8 @@ use borrow.Author.Needs.{needs}
 use Rattle.standard.specs.Masks.{maskNumber, inverts}
 use lib.Arith.{lt-of-le-ne}
 use native.Mathlib.Nat.{mul-le-mul, le-of-lt}
-use Rattle.modules.proofs.inverted.Statement.{statement}
-use Rattle.modules.proofs.inverted.Tie as tie
+use Rattle.modules.proofs.mask.inverted.Statement.{statement}
+use Rattle.modules.proofs.mask.inverted.Tie as tie
 
 mul-xy : tie.Need-mul-xy
 mul-xy c = omega (arith, mul-le-mul (le-of-lt (c .pre .1)) (le-of-lt (c .pre .2)))
