@@ -1,12 +1,11 @@
 -- A loop over the rows of a grid, and in each over its cells, that treats each cell by one pattern p: what is done before a turn, and the laws of a turn.
 -- Assumes nothing.
-use mathlib.Core.Path.{_≡_, refl, sym, ap, _∙_}
+use mathlib.Core.Path.{_≡_, refl, _∙_}
 use mathlib.Core.List.{List}
-use mathlib.Core.Bool.{Bool, true, false}
+use mathlib.Core.Bool.{true}
 use Prim.Native.Nat.{ℕ, _+_, _*_, _≤_, _<_}
 use native.Mathlib.Nat.{le-antisymm, not-suc-le-zero, not-le-of-lt}
-use native.Mathlib.Omega.{arith}
-use lib.ListN.{length, getD, set}
+use lib.ListN.{getD, set}
 use lib.Dec.{ltb, eqb}
 use Rattle.laws.specs.Grid.{Pattern, Square, on, paint, set-keys, scan, scan-start, scan-end}
 
