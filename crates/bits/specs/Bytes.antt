@@ -9,14 +9,10 @@ use lib.ListN.{length, getD, take, drop, replicate, drop-of-length-le}
 use lib.Seq.{take-at, take-nil, take-append-add, drop-append-add}
 use Rattle.standard.specs.Numbers.{from, tabulate}
 use Rattle.standard.specs.Bits.{bits, valueFrom, byteAt, pack, unpack}
-use Rattle.laws.specs.Lists.{is-tabulate}
-use Rattle.bits.specs.PackedLaws.{length-bits, length-unpack, value-bits}
+use Rattle.standard.specs.Field.{Bytes}
+use Rattle.laws.specs.Lists.{is-tabulate, length-bits}
+use Rattle.bits.specs.PackedLaws.{length-unpack, value-bits}
 use Rattle.bits.specs.Fields.{field, Binary, field-split, field-lt}
-
--- every number is a byte
-abbrev pub Bytes : List ℕ → Type 0
-Bytes [] = Unit {0}
-Bytes (a ∷ p) = (a < 256) × Bytes p
 
 pub bytes-append : (a b : List ℕ) → Bytes a → Bytes b → Bytes (a ++ b)
 bytes-append [] b ha hb = hb

@@ -9,7 +9,8 @@ use lib.ListN.{length, take, drop, length-append, length-drop, take-append-drop}
 use lib.Seq.{take-at, drop-at, drop-drop, length-take-le}
 use lib.Pow.{pow-pos}
 use Rattle.standard.specs.Bits.{bits, valueFrom, unpack}
-use Rattle.bits.specs.PackedLaws.{length-bits, value-bits}
+use Rattle.laws.specs.Lists.{length-bits}
+use Rattle.bits.specs.PackedLaws.{value-bits}
 
 -- what `read_bits` gives
 abbrev pub field : List ℕ → ℕ → ℕ → ℕ

@@ -15,13 +15,8 @@ use lib.Pow.{pow-mono, mod-pow-add}
 use Rattle.standard.specs.Numbers.{same}
 use Rattle.standard.specs.Bits.{bits, unpack, valueFrom}
 use Rattle.laws.specs.Tests.{implies, implies-use}
-use Rattle.laws.specs.Lists.{same-eq}
+use Rattle.laws.specs.Lists.{same-eq, length-bits}
 use Rattle.laws.specs.Computed.{among, below}
-
-pub length-bits : (n v : ℕ) → length (bits n v) ≡ n
-unfolding bits
-length-bits zero v = refl
-length-bits (suc n) v = ap suc (length-bits n v)
 
 pub length-unpack : (bs : List ℕ) → length (unpack bs) ≡ 8 * length bs
 unfolding unpack

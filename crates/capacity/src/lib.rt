@@ -2,7 +2,7 @@
 ghost use mathlib.Core.Path.{_≡_};
 ghost use Prim.Native.Nat.{_+_, _≤_};
 ghost use lib.ListN.{take};
-ghost use Rattle.standard.specs.Sizes.{side, rawModules, checkBytes, blocks, dataCodewords};
+ghost use Rattle.standard.specs.Sizes.{rawModules, checkBytes, blocks, dataCodewords};
 ghost use Rattle.standard.specs.Patterns.{alignmentStep, alignment};
 ghost use Rattle.types.specs.Numbers.{IsVersion, levelOf};
 

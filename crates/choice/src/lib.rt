@@ -1,6 +1,6 @@
 // A label drawn with the mask that is asked for, or with the automatic choice: the lowest mask of least penalty.
 ghost use mathlib.Core.Path.{_≡_};
-ghost use Prim.Native.Nat.{_*_, _<_, _≤_};
+ghost use Prim.Native.Nat.{_<_, _≤_};
 ghost use lib.ListN.{length};
 ghost use Rattle.standard.specs.Sizes.{side};
 ghost use Rattle.standard.specs.Grid.{content, grid as gridOf};

@@ -1,16 +1,14 @@
 -- The function modules by tests that compute faster, proved equal to the definition at every version.
 -- Assumes nothing.
-use Prim.Native.Nat.{ℕ, zero, suc, _+_, _-_, _*_, _/_, _%_, _≤_, _<_}
-use mathlib.Core.Bool.{Bool, true, false, cond, not, _&&_, _||_, and-false, true≢false}
-use mathlib.Core.List.{List, [], _∷_}
-use mathlib.Core.Path.{_≡_, refl, sym, ap, ap₂, _∙_, subst}
+use Prim.Native.Nat.{ℕ, _+_, _-_, _/_, _%_, _≤_, _<_}
+use mathlib.Core.Bool.{Bool, true, false, cond, not, _&&_, _||_, and-false}
+use mathlib.Core.Path.{_≡_, refl, ap, _∙_}
 use native.Mathlib.Omega.{arith}
-use native.Mathlib.Nat.{not-suc-le-zero}
 use lib.Dec.{T, leb, ltb, eqb}
-use borrow.Author.Tests.{lt-ltb, le-ltb, le-leb, lt-leb, ne-eqb, ltb-true, ltb-false, leb-false}
+use borrow.Author.Tests.{lt-ltb, le-ltb, lt-leb, ne-eqb, ltb-false, leb-false}
 use Rattle.standard.specs.Sizes.{side, centres}
 use Rattle.standard.specs.Patterns.{onTiming, onFinder, alignmentStep, alignment, nearest, onCorner, onAlignment}
-use Rattle.standard.specs.Format.{formatInColumn, formatInRow, formatPlace, onFormat, inVersion, onVersion}
+use Rattle.standard.specs.Format.{formatInRow, formatPlace, onFormat, inVersion, onVersion}
 use Rattle.standard.specs.Functions.{isFunction}
 use Rattle.standard.proofs.Open.{opened}
 use Rattle.laws.specs.Tests.{alike, alike-eq, or-left, or-right, cond-same}

@@ -2,11 +2,11 @@
 -- Assumes nothing.
 use Prim.Native.Nat.{ℕ, zero, suc, _+_, _-_, _*_, _/_, _%_, _≤_, _<_}
 use mathlib.Core.Bool.{Bool, true, false, not, _&&_, _||_}
-use mathlib.Core.List.{List, [], _∷_}
+use mathlib.Core.List.{List}
 use mathlib.Core.Path.{_≡_, refl, sym, ap, ap₂, _∙_}
 use native.Mathlib.Omega.{arith}
 use native.Mathlib.Numerals.{add-one}
-use native.Mathlib.Nat.{mod-lt, mod-eq-of-lt, div-eq-of-lt, div-lt-iff-lt-mul, div-div-eq-div-mul, mul-add-div-right, mul-add-mod-self-right, add-zero, zero-mul}
+use native.Mathlib.Nat.{mod-eq-of-lt, div-eq-of-lt, div-div-eq-div-mul, mul-add-div-right, mul-add-mod-self-right, add-zero, zero-mul}
 use lib.Dec.{T, eqb, eqb→eq}
 use lib.ListN.{length}
 use lib.Arith.{digits-div, digits-mod}

@@ -1,18 +1,13 @@
 -- The stream of a list of segments is as long as its total bits.
 -- Assumes nothing.
-use Prim.Native.Nat.{ℕ, zero, suc, _+_}
+use Prim.Native.Nat.{ℕ, _+_}
 use mathlib.Core.List.{List, [], _∷_, _++_}
-use mathlib.Core.Path.{_≡_, refl, sym, ap, ap₂, _∙_}
-use native.Mathlib.Omega.{arith}
+use mathlib.Core.Path.{_≡_, refl, ap, ap₂, _∙_}
 use lib.ListN.{length, length-append}
 use Rattle.standard.specs.Bits.{bits}
 use Rattle.standard.specs.Kinds.{modeBits, countWidth}
 use Rattle.standard.specs.Segments.{Segment, payload, segmentBits, stream, segmentSize, totalBits}
-
-pub length-bits : (w n : ℕ) → length (bits w n) ≡ w
-unfolding bits
-length-bits zero n = refl
-length-bits (suc w) n = ap suc (length-bits w n)
+use Rattle.laws.specs.Lists.{length-bits}
 
 pub segment-length : (v : ℕ) (s : Segment) → length (segmentBits v s) ≡ segmentSize v s
 unfolding segmentBits segmentSize

@@ -4,13 +4,13 @@ use Prim.Native.Nat.{ℕ, zero, suc, _+_, _-_, _*_, _/_, _%_, _≤_, _<_}
 use mathlib.Core.Bool.{Bool, true, false, cond}
 use mathlib.Core.List.{List, [], _∷_}
 use mathlib.Core.Path.{_≡_, refl, sym, ap, _∙_}
-use native.Mathlib.Nat.{mod-lt, mod-eq-of-lt, div-eq-of-lt, div-add-mod', div-lt-iff-lt-mul, div-div-eq-div-mul, mul-add-div, mul-add-div-right, mul-add-mod-self-left, mul-add-mod-self-right, add-zero, mul-le-mul-right, le-trans, le-refl, le-suc, not-suc-le-zero, le-of-suc-le-suc}
+use native.Mathlib.Nat.{mod-lt, mod-eq-of-lt, div-eq-of-lt, div-add-mod', div-lt-iff-lt-mul, div-div-eq-div-mul, mul-add-div, mul-add-mod-self-left, add-zero, mul-le-mul-right, le-trans, le-refl, le-suc, not-suc-le-zero, le-of-suc-le-suc}
 use native.Mathlib.Omega.{arith}
 use lib.Dec.{leb, ltb, eqb}
 use lib.Arith.{digits-div, digits-mod}
 use lib.ListN.{length, getD}
 use borrow.Author.Tests.{lt-ltb, le-ltb, le-leb, lt-leb, leb-true, leb-false}
-use Rattle.standard.specs.Numbers.{from, tabulate, consIf, keep}
+use Rattle.standard.specs.Numbers.{from, consIf, keep}
 use Rattle.standard.specs.Sizes.{side}
 use Rattle.standard.specs.Path.{right, height, cell, free, path}
 

@@ -1,6 +1,5 @@
 -- Document 01's number and details of each refusal, and the answers of the code as answers of the definition.
 -- Assumes nothing.
-use Prim.Native.Nat.{ℕ}
 use Rattle.standard.specs.Plan.{Refusal as Told, refusal, Plan, unplanned, planned}
 use Rattle.standard.specs.Encode.{Answer, refused, accepted}
 use Rattle.types.specs.Numbers.{levelOf}

@@ -1,17 +1,17 @@
 -- The order of refusals 1 to 7, the level that the data get, and what a plan says of its records.
 -- Assumes nothing.
 use Prim.Native.Nat.{ℕ, zero, suc, _+_, _-_, _*_, _/_, _^_, _≤_, _<_}
-use mathlib.Core.Bool.{Bool, true, false, cond, _&&_, not, true≢false}
-use mathlib.Core.List.{List, [], _∷_}
-use mathlib.Core.Path.{_≡_, refl, sym, ap, ap₂, _∙_, subst}
+use mathlib.Core.Bool.{Bool, true, false, cond, _&&_, not}
+use mathlib.Core.List.{List}
+use mathlib.Core.Path.{_≡_, refl, sym, ap, _∙_}
 use native.Mathlib.Omega.{arith}
-use lib.Dec.{T, leb, ltb, leb→le}
+use lib.Dec.{T, leb, ltb}
 use lib.ListN.{length}
 use borrow.Author.Tests.{le-leb, lt-leb, le-ltb, lt-ltb, leb-true, leb-false, not-false}
-use Rattle.standard.specs.Numbers.{least, highest, every}
+use Rattle.standard.specs.Numbers.{highest, every}
 use Rattle.standard.specs.Sizes.{dataCodewords, capacity}
-use Rattle.standard.specs.Segments.{Part, Segment, segmentsOf, goodPart, firstBad, totalBits, lengthsFit, fits}
-use Rattle.standard.specs.Plan.{Refusal, refusal, Plan, unplanned, planned, lowestFit, boosted, tooLong, levelled, planFit, plan}
+use Rattle.standard.specs.Segments.{Part, segmentsOf, goodPart, firstBad}
+use Rattle.standard.specs.Plan.{refusal, Plan, unplanned, boosted, planFit, plan}
 use Rattle.segments.specs.Records.{partsOf, parts-length, all-good}
 use Rattle.counts.specs.Ranges.{PairRange, pair-range}
 use Rattle.laws.specs.Tests.{and-first, and-second}

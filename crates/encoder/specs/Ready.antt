@@ -1,7 +1,7 @@
 -- What a plan says of the records that it was made for: they are good, and they fit the version at the level. So they can be drawn.
 -- Assumes nothing.
 use Prim.Native.Nat.{ℕ, zero, suc, _+_, _-_, _≤_, _<_}
-use mathlib.Core.Bool.{Bool, true, false, cond, _&&_, not}
+use mathlib.Core.Bool.{Bool, true, false, cond}
 use mathlib.Core.List.{List}
 use mathlib.Core.Path.{_≡_, refl, sym, ap₂, _∙_}
 use native.Mathlib.Omega.{arith}

@@ -1,17 +1,17 @@
 -- The search for the lowest version of a range that fits: what each turn of the loop says of the definition's plan.
 -- Assumes nothing.
-use Prim.Native.Nat.{ℕ, zero, suc, _+_, _-_, _*_, _≤_, _<_}
+use Prim.Native.Nat.{ℕ, suc, _+_, _-_, _≤_, _<_}
 use mathlib.Core.Bool.{Bool, true, false, cond, _&&_}
 use mathlib.Core.List.{List}
 use mathlib.Core.Path.{_≡_, refl, sym, ap, ap₂, _∙_}
 use native.Mathlib.Omega.{arith}
 use native.Mathlib.Numerals.{add-one}
-use lib.Dec.{leb, ltb}
+use lib.Dec.{leb}
 use borrow.Author.Tests.{le-ltb, lt-ltb, leb-true}
 use Rattle.standard.specs.Numbers.{least}
 use Rattle.standard.specs.Sizes.{capacity}
 use Rattle.standard.specs.Segments.{Segment, totalBits, lengthsFit, fits}
-use Rattle.standard.specs.Plan.{Refusal, refusal, Plan, unplanned, planned, lowestFit, tooLong, levelled, planFit}
+use Rattle.standard.specs.Plan.{Refusal, refusal, unplanned, planned, lowestFit, tooLong, levelled, planFit}
 use Rattle.encoder.specs.declared.plan.Fit.{Fit}
 use Rattle.encoder.specs.declared.plan.Fit.the-variants.{Fits, TooMany, TooLong}
 use Rattle.encoder.specs.Fitting.{fitAt}

@@ -1,13 +1,13 @@
 -- A loop over the rows, and in each over the cells, of the square of the cells at most r away from (cx, cy), with what lies off the grid left out:
 -- offsets dx and dy run from 0 to 2 * r, and the cell has x + r = cx + dx and y + r = cy + dy. One law for every pattern p that changes nothing further away.
 -- Assumes nothing.
-use mathlib.Core.Path.{_≡_, refl, sym, ap, _∙_}
+use mathlib.Core.Path.{_≡_, _∙_}
 use mathlib.Core.List.{List}
-use mathlib.Core.Bool.{Bool, true, false}
-use Prim.Native.Nat.{ℕ, _+_, _-_, _*_, _≤_, _<_, max}
+use mathlib.Core.Bool.{true}
+use Prim.Native.Nat.{ℕ, _+_, _-_, _*_, _≤_, _<_}
 use native.Mathlib.Nat.{le-antisymm, add-assoc}
 use native.Mathlib.Omega.{arith}
-use lib.ListN.{length, getD, set}
+use lib.ListN.{getD, set}
 use lib.Dec.{ltb, eqb}
 use Rattle.laws.specs.Grid.{Pattern, Square, on, paint, none-keys, set-keys, scan, scan-start, scan-end}
 use Rattle.standard.specs.Patterns.{ring}

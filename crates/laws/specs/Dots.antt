@@ -1,15 +1,13 @@
 -- Single cells, one after the other: for what is drawn at places that a formula gives, as the format bits are.
 -- Assumes nothing.
-use mathlib.Core.Path.{_≡_, refl, sym, ap, _∙_}
+use mathlib.Core.Path.{_≡_, refl, _∙_}
 use mathlib.Core.List.{List}
-use mathlib.Core.Bool.{Bool, true, false}
-use Prim.Native.Nat.{ℕ, zero, suc, _+_, _-_, _*_, _/_, _%_, _^_, _≤_, _<_}
+use Prim.Native.Nat.{ℕ, zero, suc, _+_, _-_, _*_, _≤_, _<_}
 use native.Mathlib.Nat.{le-antisymm}
 use native.Mathlib.Numerals.{add-one}
-use lib.ListN.{length, getD, set}
-use lib.Dec.{ltb, eqb}
-use Rattle.laws.specs.Grid.{Pattern, Square, on, then, paint, paint-paint, paint-none}
-use Rattle.laws.specs.Whole.{atCell, store}
+use lib.ListN.{set}
+use Rattle.laws.specs.Grid.{Pattern, Square, paint, paint-paint, paint-none}
+use Rattle.laws.specs.Store.{atCell, store}
 
 -- the cell (cx, cy) becomes c
 abbrev pub dot : ℕ → ℕ → ℕ → Pattern

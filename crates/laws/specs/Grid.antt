@@ -1,22 +1,21 @@
 -- A grid of side * side cells is a list, row by row: cell (x, y) stands at y * side + x.
 -- A pattern says what becomes of a cell: p x y v is the new value of the cell (x, y) that holds v.
 -- Assumes nothing.
-use mathlib.Core.Path.{_≡_, refl, sym, ap, _∙_, subst}
-use mathlib.Core.List.{List, [], _∷_}
+use mathlib.Core.Path.{_≡_, refl, sym, ap, _∙_}
+use mathlib.Core.List.{List}
 use mathlib.Core.Bool.{Bool, true, false, cond, _&&_, true≢false}
-use mathlib.Core.Logic.{⊎-elim, _⊎_, inl, inr}
+use mathlib.Core.Logic.{_⊎_, inl, inr}
 use Prim.Native.Nat.{ℕ, zero, suc, _+_, _*_, _/_, _%_, _≤_, _<_}
-use native.Mathlib.Nat.{not-suc-le-zero, le-of-suc-le-suc, mod-lt, div-add-mod', div-lt-iff-lt-mul, mul-le-mul}
+use native.Mathlib.Nat.{not-suc-le-zero, mod-lt, div-add-mod', div-lt-iff-lt-mul, mul-le-mul}
 use native.Mathlib.Omega.{arith}
-use native.Mathlib.Decide.{ℕ-discrete, decLt}
 use lib.ListN.{length, getD, set, length-set}
 use lib.Seq.{ext-getD, getD-set-same, getD-set-other}
 use lib.Arith.{digits-div, digits-mod, digits-lt}
-use lib.Dec.{T, ltb, eqb}
+use lib.Dec.{ltb, eqb}
 use Rattle.standard.specs.Numbers.{tabulate}
 use Rattle.laws.specs.Tests.{compared, cond-and}
 use Rattle.laws.specs.Lists.{length-tabulate, getD-tabulate}
-use borrow.Author.Tests.{lt-ltb, le-ltb, eq-eqb, ne-eqb, ltb-true, ltb-false, eqb-true, eqb-false}
+use borrow.Author.Tests.{lt-ltb, le-ltb, eq-eqb, ne-eqb, ltb-true, ltb-false, eqb-true}
 
 -- ---- patterns
 

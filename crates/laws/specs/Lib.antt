@@ -7,7 +7,7 @@ pub mod Xor
 pub mod Each
 pub mod Front
 pub mod Grid
-pub mod Whole
+pub mod Store
 pub mod Box
 pub mod Dots
 pub mod Marks

@@ -1,15 +1,16 @@
 -- Laws on the definition's words for lists: from, tabulate, every, same.
 -- Assumes nothing.
 use Prim.Native.Nat.{ℕ, zero, suc, _+_, _≤_, _<_}
-use mathlib.Core.Bool.{Bool, true, false, _&&_}
+use mathlib.Core.Bool.{Bool}
 use mathlib.Core.List.{List, [], _∷_, _++_, map}
 use mathlib.Core.Path.{_≡_, refl, sym, ap, ap₂, _∙_}
 use native.Mathlib.Nat.{not-suc-le-zero, le-of-suc-le-suc, add-zero, add-suc, suc-add, zero-add}
 use native.Mathlib.Omega.{arith}
-use lib.Dec.{T, eqb, eqb→eq, eqb-refl}
-use lib.ListN.{length, getD, length-append}
+use lib.Dec.{T, eqb, eqb→eq}
+use lib.ListN.{length, getD}
 use lib.Seq.{ext-getD}
 use Rattle.standard.specs.Numbers.{from, tabulate, every, same}
+use Rattle.standard.specs.Bits.{bits}
 use Rattle.laws.specs.Tests.{and-left, and-right, and-pair}
 
 -- ---- from and tabulate
@@ -78,3 +79,10 @@ same-eq [] (y ∷ ys) t = absurd t
 same-eq (x ∷ xs) [] t = absurd t
 same-eq (x ∷ xs) (y ∷ ys) t =
     ap₂ (λ (a : ℕ) (l : List ℕ). a ∷ l) (eqb→eq x y (and-left (eqb x y) (same xs ys) t)) (same-eq xs ys (and-right (eqb x y) (same xs ys) t))
+
+-- ---- bits
+
+pub length-bits : (w n : ℕ) → length (bits w n) ≡ w
+unfolding bits
+length-bits zero n = refl
+length-bits (suc w) n = ap suc (length-bits w n)

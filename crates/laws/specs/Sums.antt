@@ -4,8 +4,7 @@ use Prim.Native.Nat.{ℕ, zero, suc, _+_, _*_, _≤_, _<_}
 use mathlib.Core.List.{List, [], _∷_, _++_}
 use mathlib.Core.Path.{_≡_, refl, sym, ap, ap₂, _∙_}
 use native.Mathlib.Omega.{arith}
-use native.Mathlib.Nat.{zero-add, suc-add, add-assoc, add-zero, add-suc, zero-mul, le-antisymm}
-use native.Mathlib.Numerals.{add-one}
+use native.Mathlib.Nat.{zero-add, add-assoc, add-zero, add-suc, zero-mul, le-antisymm}
 use Rattle.standard.specs.Numbers.{from, tabulate, sum}
 use Rattle.laws.specs.Lists.{from-cong, from-append}
 

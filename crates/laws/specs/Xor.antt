@@ -1,9 +1,8 @@
 -- What `lib.Bits` lacks of `bitXor`: it is associative, and doubling, halving and the choice by a bit are linear.
 -- Assumes nothing.
 use mathlib.Core.Path.{_≡_, refl, sym, ap, ap₂, _∙_, subst}
-use mathlib.Core.Logic.{⊎-elim}
-use Prim.Native.Nat.{ℕ, zero, suc, _+_, _*_, _/_, _%_, _^_, _≤_, _<_, suc-le-suc}
-use native.Mathlib.Nat.{le-of-suc-le-suc, not-suc-le-zero, zero-lt-suc, add-zero, zero-mul, one-mul, mul-zero, mod-lt, le-refl, zero-add, pow-suc, div-lt-iff-lt-mul, mul-comm, eq-or-lt-of-le}
+use Prim.Native.Nat.{ℕ, zero, suc, _+_, _*_, _/_, _%_, _^_, _<_}
+use native.Mathlib.Nat.{zero-lt-suc, add-zero, zero-mul, one-mul, mod-lt, le-refl, pow-suc, div-lt-iff-lt-mul, mul-comm}
 use native.Mathlib.Omega.{arith}
 use lib.Arith.{bin-ind, digits-mod}
 use lib.Bits.{bitXor, differ, xor-step, xor-shr, xor-block, xor-zero-r, xor-self, xor-comm, xor-shifted}

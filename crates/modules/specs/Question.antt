@@ -21,7 +21,7 @@ use Rattle.laws.specs.Tests.{same-test, and-first, and-second}
 
 -- ---- sides
 
-valid-range : (s : ℕ) → validSide s ≡ true → (s ≡ side (versionOf s)) × (1 ≤ versionOf s) × (versionOf s ≤ 40)
+pub valid-range : (s : ℕ) → validSide s ≡ true → (s ≡ side (versionOf s)) × (1 ≤ versionOf s) × (versionOf s ≤ 40)
 unfolding validSide
 valid-range s e =
     let rest = and-second (eqb s (side (versionOf s))) (leb 1 (versionOf s) && leb (versionOf s) 40) e in (

@@ -10,7 +10,7 @@ use Rattle.standard.specs.Numbers.{every}
 use Rattle.standard.specs.Sizes.{dataCodewords}
 use Rattle.standard.specs.Segments.{Segment, goodSegment, fits}
 use Rattle.standard.specs.Codewords.{dataWords}
-use Rattle.bits.specs.Bytes.{Bytes}
+use Rattle.standard.specs.Field.{Bytes}
 use Rattle.parser.specs.declared.Counted.{Counted}
 use Rattle.parser.specs.declared.Counted.the-variants.{Read, Bad}
 use Rattle.parser.specs.Parse.{Parsed, read, bad}

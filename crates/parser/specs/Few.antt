@@ -11,8 +11,8 @@ use Rattle.standard.specs.Kinds.{byKind, countWidth, eciBits}
 use Rattle.standard.specs.Bits.{bits}
 use Rattle.standard.specs.Segments.{Segment, payload, segmentSize, totalBits, lengthsFit, fits}
 use Rattle.laws.specs.Tests.{and-right}
+use Rattle.laws.specs.Lists.{length-bits}
 use Rattle.counts.specs.Ranges.{pair-range}
-use Rattle.bits.specs.PackedLaws.{length-bits}
 
 -- ---- the least record
 

@@ -11,11 +11,12 @@ use Rattle.standard.specs.Bits.{unpack}
 use Rattle.standard.specs.Sizes.{dataCodewords, capacity}
 use Rattle.standard.specs.Segments.{Segment, goodSegment, stream, totalBits, lengthsFit, fits}
 use Rattle.standard.specs.Codewords.{dataWords}
+use Rattle.standard.specs.Field.{Bytes}
 use Rattle.laws.specs.Tests.{and-right, and-pair}
 use Rattle.bits.specs.PackedLaws.{length-unpack}
 use Rattle.bits.specs.Fields.{binary-unpack}
-use Rattle.bits.specs.Bytes.{Bytes, same-bytes}
-use Rattle.segments.specs.Payload.{total-length}
+use Rattle.bits.specs.Bytes.{same-bytes}
+use Rattle.counts.specs.Stream.{stream-length}
 use Rattle.segments.specs.Words.{lengths-fit}
 use Rattle.parser.specs.Tail.{tailBits}
 use Rattle.parser.specs.Parse.{Parsed, read, parseFrom, parse-complete, parse-sound, Wrote}
@@ -28,17 +29,17 @@ parse v ws = parseFrom v (unpack ws) (suc (length (unpack ws))) 0
 
 -- ---- a list that fits
 
-fits-room : (v l : ℕ) (ss : List Segment) → T (fits l ss v) → length (stream v ss) ≤ 8 * dataCodewords v l
+pub fits-room : (v l : ℕ) (ss : List Segment) → T (fits l ss v) → length (stream v ss) ≤ 8 * dataCodewords v l
 unfolding fits capacity
 fits-room v l ss t =
-    subst (λ (k : ℕ). k ≤ 8 * dataCodewords v l) (sym (total-length v ss))
+    subst (λ (k : ℕ). k ≤ 8 * dataCodewords v l) (sym (stream-length v ss))
     (leb→le (totalBits v ss) (8 * dataCodewords v l) (and-right (lengthsFit v ss) (leb (totalBits v ss) (8 * dataCodewords v l)) t))
 
 room-fits : (v l : ℕ) (ss : List Segment) → T (lengthsFit v ss) → length (stream v ss) ≤ 8 * dataCodewords v l → T (fits l ss v)
 unfolding fits capacity
 room-fits v l ss t h =
     and-pair (lengthsFit v ss) (leb (totalBits v ss) (8 * dataCodewords v l)) t
-    (le→leb (totalBits v ss) (8 * dataCodewords v l) (subst (λ (k : ℕ). k ≤ 8 * dataCodewords v l) (total-length v ss) h))
+    (le→leb (totalBits v ss) (8 * dataCodewords v l) (subst (λ (k : ℕ). k ≤ 8 * dataCodewords v l) (stream-length v ss) h))
 
 -- ---- the theorems
 
@@ -49,7 +50,7 @@ parse-encoded v l ss g t =
     let u : List ℕ = unpack (dataWords v l ss) in
     let long : length u ≡ 8 * dataCodewords v l = length-unpack (dataWords v l ss) ∙ ap (λ (k : ℕ). 8 * k) (data-length v l ss room) in
     let z : length (stream v ss) ≡ 0 + length (stream v ss) = omega arith in
-    parse-complete v u ss (suc (length u)) 0 g (lengths-fit v l ss t) (omega (arith, few-bits v ss, total-length v ss)) (omega arith)
+    parse-complete v u ss (suc (length u)) 0 g (lengths-fit v l ss t) (omega (arith, few-bits v ss, stream-length v ss)) (omega arith)
     (data-bits v l ss room ∙ ap₂ (λ (k j : ℕ). stream v ss ++ tailBits k j) (sym long) z)
 
 -- the codewords are exactly those of a list that is good and fits

@@ -8,7 +8,7 @@ use types::Mask;
 use types::QrCodeEcc;
 use types::Version;
 ghost use mathlib.Core.Path.{_≡_};
-ghost use mathlib.Core.Bool.{Bool, not, _||_};
+ghost use mathlib.Core.Bool.{not, _||_};
 ghost use Prim.Native.Nat.{_+_, _*_, _<_, _≤_, max};
 ghost use lib.Dec.{eqb};
 ghost use Rattle.standard.specs.Numbers.{apart, bit, one};

@@ -7,16 +7,15 @@ use mathlib.Core.Path.{_≡_, refl, sym, ap, ap₂, _∙_}
 use native.Mathlib.Nat.{mul-le-mul}
 use native.Mathlib.Numerals.{add-one}
 use native.Mathlib.Omega.{arith}
-use lib.Dec.{ltb, leb, eqb}
+use lib.Dec.{ltb, eqb}
 use lib.ListN.{length, getD, drop, drop-of-length-le}
 use lib.Seq.{drop-cons}
-use borrow.Author.Tests.{lt-ltb, le-ltb, eq-eqb, ne-eqb, eqb-true, leb-true}
+use borrow.Author.Tests.{lt-ltb, le-ltb, eq-eqb, ne-eqb}
 use Rattle.standard.specs.Numbers.{least, same}
 use Rattle.standard.specs.Sizes.{side}
 use Rattle.standard.specs.Plan.{refusal}
 use Rattle.standard.specs.Module.{versionOf, validSide}
-use Rattle.laws.specs.Tests.{and-first, and-second}
-use Rattle.modules.specs.Question.{valid-low, valid-high, valid-rest}
+use Rattle.modules.specs.Question.{valid-range, valid-low, valid-high, valid-rest}
 use Rattle.standard.specs.Read.{firstAbove, nothing, refusedBy, firstRefusal}
 
 -- ---- the version of a side
@@ -81,15 +80,6 @@ module _ (a b : List ℕ) (long : length a ≡ length b) where
   same-end i e h = sym (e ∙ ap₂ same (drop-of-length-le a {i = i} h) (drop-of-length-le b {i = i} (omega arith)))
 
 -- ---- the refusal that comes first
-
-valid-range : (s : ℕ) → validSide s ≡ true → (s ≡ side (versionOf s)) × (1 ≤ versionOf s) × (versionOf s ≤ 40)
-unfolding validSide
-valid-range s e =
-    let rest = and-second (eqb s (side (versionOf s))) (leb 1 (versionOf s) && leb (versionOf s) 40) e in (
-      eqb-true s (side (versionOf s)) (and-first (eqb s (side (versionOf s))) (leb 1 (versionOf s) && leb (versionOf s) 40) e),
-      leb-true 1 (versionOf s) (and-first (leb 1 (versionOf s)) (leb (versionOf s) 40) rest),
-      leb-true (versionOf s) 40 (and-second (leb 1 (versionOf s)) (leb (versionOf s) 40) rest),
-    )
 
 -- the side is that of a version v, or v is 0
 pub record Sided (s v : ℕ) : Type 0 where

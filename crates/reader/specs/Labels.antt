@@ -9,8 +9,8 @@ use native.Mathlib.Omega.{arith}
 use lib.Dec.{T, leb, leb→le, le→leb}
 use lib.ListN.{length, getD, List·getD-eq-default}
 use Rattle.standard.specs.Numbers.{every}
-use Rattle.standard.specs.Sizes.{side, rawCodewords, checkBytes, blocks, dataCodewords, capacity}
-use Rattle.standard.specs.Segments.{Segment, goodSegment, stream, totalBits, lengthsFit, fits}
+use Rattle.standard.specs.Sizes.{side, rawCodewords, checkBytes, blocks, dataCodewords}
+use Rattle.standard.specs.Segments.{Segment, goodSegment, fits}
 use Rattle.standard.specs.Codewords.{dataWords}
 use Rattle.standard.specs.Field.{Bytes, check}
 use Rattle.standard.specs.Blocks.{block, allWords}
@@ -20,14 +20,12 @@ use Rattle.standard.specs.Label.{Label, isLabel, gridOf, Shows}
 use Rattle.laws.specs.Tests.{and-left, and-right, and-pair, split, compared}
 use Rattle.laws.specs.Lists.{length-tabulate}
 use Rattle.counts.specs.Ranges.{PairRange, pair-range}
-use Rattle.counts.specs.Stream.{stream-length}
-use Rattle.bits.specs.Bytes.{Bytes as AllBytes}
 use Rattle.field.specs.Division.{bytes-check}
 use Rattle.blocks.specs.Places.{all-long, all-data, all-check}
 use Rattle.blocks.specs.Undo.{dataOf}
 use Rattle.blocks.specs.Theorems.{data-back}
 use Rattle.parser.specs.Words.{data-bytes, data-length}
-use Rattle.parser.specs.Theorems.{no-two-lists}
+use Rattle.parser.specs.Theorems.{fits-room, no-two-lists}
 use Rattle.modules.specs.Reading.{Drawable, drawn-unique}
 
 -- ---- the parts of a label
@@ -70,12 +68,6 @@ module _ (v l m : ℕ) (ss : List Segment) where
 
 -- ---- its data codewords
 
-fits-room : (v l : ℕ) (ss : List Segment) → T (fits l ss v) → length (stream v ss) ≤ 8 * dataCodewords v l
-unfolding fits capacity
-fits-room v l ss t =
-    let h : totalBits v ss ≤ 8 * dataCodewords v l = leb→le (totalBits v ss) (8 * dataCodewords v l) (and-right (lengthsFit v ss) (leb (totalBits v ss) (8 * dataCodewords v l)) t) in
-    omega (arith, stream-length v ss)
-
 pub words-long : (v l : ℕ) (ss : List Segment) → T (fits l ss v) → length (dataWords v l ss) ≡ dataCodewords v l
 words-long v l ss t = data-length v l ss (fits-room v l ss t)
 
@@ -85,10 +77,6 @@ byte-at : (p : List ℕ) → Bytes p → (i : ℕ) → getD p i 0 < 256
 byte-at [] h i = omega arith
 byte-at (x ∷ p) h zero = h .0
 byte-at (x ∷ p) h (suc i) = byte-at p (h .1) i
-
-bytes-here : (p : List ℕ) → AllBytes p → Bytes p
-bytes-here [] h = tt
-bytes-here (x ∷ p) h = (h .0, bytes-here p (h .1))
 
 module _ (v l : ℕ) (ws : List ℕ) (r : PairRange v l) (full : length ws ≡ dataCodewords v l) (bytes : Bytes ws) where
   all-bytes : (p : ℕ) → getD (allWords v l ws) p 0 < 256
@@ -121,7 +109,7 @@ drawable v l m ss p =
       level = p .level;
       mask = p .mask;
       full = all-long v l (dataWords v l ss) r full;
-      bytes = all-bytes v l (dataWords v l ss) r full (bytes-here (dataWords v l ss) (data-bytes v l ss (fits-room v l ss (p .fit))));
+      bytes = all-bytes v l (dataWords v l ss) r full (data-bytes v l ss (fits-room v l ss (p .fit)));
     }
 
 pub grid-length : (v l m : ℕ) (c : List ℕ) → length (grid v l m c) ≡ side v * side v

@@ -10,8 +10,8 @@ use Rattle.standard.specs.Numbers.{every}
 use Rattle.standard.specs.Sizes.{dataCodewords}
 use Rattle.standard.specs.Segments.{Segment, goodSegment, fits}
 use Rattle.standard.specs.Codewords.{dataWords}
+use Rattle.standard.specs.Field.{Bytes}
 use Rattle.standard.specs.Plan.{refusal}
-use Rattle.bits.specs.Bytes.{Bytes}
 use Rattle.parser.specs.declared.Counted.{Counted}
 use Rattle.parser.specs.declared.Counted.the-variants.{Read as Counts, Bad}
 use Rattle.parser.specs.Parse.{Parsed}

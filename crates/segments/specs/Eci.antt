@@ -12,7 +12,8 @@ use borrow.Author.Tests.{lt-ltb, le-ltb}
 use Rattle.standard.specs.Bits.{bits, valueFrom}
 use Rattle.standard.specs.Kinds.{eciBits}
 use Rattle.laws.specs.Tests.{cond-true, cond-false}
-use Rattle.bits.specs.PackedLaws.{length-bits, value-bits}
+use Rattle.laws.specs.Lists.{length-bits}
+use Rattle.bits.specs.PackedLaws.{value-bits}
 use Rattle.bits.specs.Fields.{binary-bits, bits-value}
 use Rattle.bits.specs.Appended.{Free, Appended, first-free, second-free, both-done}
 

@@ -11,8 +11,7 @@ use lib.Seq.{paste, paste-zero, paste-suc, take-all, length-take-le}
 use Rattle.standard.specs.Numbers.{tabulate}
 use Rattle.standard.specs.Bits.{bits}
 use Rattle.standard.specs.Codewords.{terminated, filled, padByte, padded}
-use Rattle.laws.specs.Lists.{length-tabulate, getD-tabulate}
-use Rattle.bits.specs.PackedLaws.{length-bits}
+use Rattle.laws.specs.Lists.{length-tabulate, getD-tabulate, length-bits}
 use Rattle.bits.specs.Bytes.{zero-bits}
 use Rattle.bits.specs.Appended.{Free, Appended, first-free, second-free, both-done}
 

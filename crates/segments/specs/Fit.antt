@@ -13,7 +13,7 @@ use borrow.Author.Tests.{lt-ltb, le-ltb, ltb-true}
 use Rattle.standard.specs.Bits.{bits}
 use Rattle.standard.specs.Kinds.{byVersion, countWidth, eciBits}
 use Rattle.standard.specs.Segments.{payload, segmentSize}
-use Rattle.bits.specs.PackedLaws.{length-bits}
+use Rattle.laws.specs.Lists.{length-bits}
 use Rattle.segments.specs.declared.TotalBits.{TotalBits}
 use Rattle.segments.specs.declared.TotalBits.the-variants.{Bits, TooLong}
 use Rattle.segments.specs.Kinds.{size, width}

@@ -4,11 +4,10 @@ use Prim.Native.Nat.{ℕ, zero, suc, _+_, _-_, _*_, _≤_, _<_}
 use mathlib.Core.Path.{_≡_, refl, sym, ap, ap₂, _∙_}
 use mathlib.Core.List.{List, [], _∷_, _++_, append-nil}
 use native.Mathlib.Omega.{arith}
-use lib.ListN.{length, take, drop, length-append}
+use lib.ListN.{length, take, drop}
 use Rattle.standard.specs.Bits.{bits}
-use Rattle.standard.specs.Kinds.{digitBits, pairBits, byteBits, pairNumber, code, digit, modeBits, countWidth}
-use Rattle.standard.specs.Segments.{Segment, payload, segmentBits, segmentSize, stream, totalBits}
-use Rattle.bits.specs.PackedLaws.{length-bits}
+use Rattle.standard.specs.Kinds.{digitBits, pairBits, byteBits, pairNumber, code, digit}
+use Rattle.standard.specs.Segments.{Segment, payload}
 use Rattle.segments.specs.Kinds.{width, codeOf, groupNumber}
 use Rattle.segments.specs.Runs.{part, runBits}
 
@@ -88,19 +87,3 @@ payload-run zero cs n h = digits-run cs (length cs) (omega arith)
 payload-run (suc zero) cs n h = pairs-run cs (length cs) (omega arith)
 payload-run (suc (suc zero)) cs n h = bytes-run cs (length cs) (omega arith)
 payload-run (suc (suc (suc k))) cs n h = absurd (omega arith)
-
--- ---- the stream is as long as the definition says
-
-pub length-segment : (v : ℕ) (s : Segment) → length (segmentBits v s) ≡ segmentSize v s
-unfolding segmentBits segmentSize
-length-segment v s =
-    length-append (bits 4 (modeBits (s .kind)) ++ bits (countWidth v (s .kind)) (length (s .chars))) (payload s)
-    ∙ ap (λ (n : ℕ). n + length (payload s))
-    (length-append (bits 4 (modeBits (s .kind))) (bits (countWidth v (s .kind)) (length (s .chars)))
-    ∙ ap₂ (λ (x y : ℕ). x + y) (length-bits 4 (modeBits (s .kind))) (length-bits (countWidth v (s .kind)) (length (s .chars))))
-
-pub total-length : (v : ℕ) (ss : List Segment) → length (stream v ss) ≡ totalBits v ss
-unfolding stream totalBits
-total-length v [] = refl
-total-length v (s ∷ ss) =
-    length-append (segmentBits v s) (stream v ss) ∙ ap₂ (λ (x y : ℕ). x + y) (length-segment v s) (total-length v ss)

@@ -10,7 +10,7 @@ use lib.Dec.{leb}
 use borrow.Author.Tests.{leb-true, leb-false}
 use lib.ListN.{length, take, drop, length-append}
 use Rattle.standard.specs.Bits.{bits}
-use Rattle.bits.specs.PackedLaws.{length-bits}
+use Rattle.laws.specs.Lists.{length-bits}
 use Rattle.segments.specs.Kinds.{size, width, groupNumber}
 
 -- how many of n characters stand in the next group

@@ -15,7 +15,7 @@ use Rattle.standard.specs.Segments.{Part, Segment, segmentOf, segmentsOf, paylo
 use Rattle.segments.specs.declared.TotalBits.{TotalBits}
 use Rattle.segments.specs.declared.TotalBits.the-variants.{Bits, TooLong}
 use Rattle.laws.specs.Tests.{true-T, and-pair}
-use Rattle.bits.specs.PackedLaws.{length-bits}
+use Rattle.laws.specs.Lists.{length-bits}
 use Rattle.segments.specs.Runs.{runSize, run-size}
 use Rattle.segments.specs.Records.{partAt, partsOf, restOf, rest-all, rest-more, rest-none}
 use Rattle.segments.specs.Good.{Means}

@@ -11,14 +11,15 @@ use Rattle.standard.specs.Bits.{pack, unpack}
 use Rattle.standard.specs.Sizes.{dataCodewords, capacity}
 use Rattle.standard.specs.Segments.{Segment, stream, totalBits, lengthsFit, fits}
 use Rattle.standard.specs.Codewords.{padded, dataWords}
+use Rattle.standard.specs.Field.{Bytes}
 use Rattle.laws.specs.Tests.{and-left, and-right}
 use Rattle.counts.specs.Ranges.{pair-range}
+use Rattle.counts.specs.Stream.{stream-length}
 use Rattle.types.specs.declared.QrCodeEcc.{QrCodeEcc}
 use Rattle.types.specs.declared.QrCodeEcc.the-variants.{Low, Medium, Quartile, High}
 use Rattle.types.specs.Numbers.{levelOf}
-use Rattle.bits.specs.Bytes.{Bytes, bytes-take, pack-unpack, unpack-take}
+use Rattle.bits.specs.Bytes.{bytes-take, pack-unpack, unpack-take}
 use Rattle.bits.specs.Appended.{Free, Appended, appended-length, free-then, free-zeros, append-then}
-use Rattle.segments.specs.Payload.{total-length}
 use Rattle.segments.specs.Ends.{endWidth, fillWidth, endBits, filled-is, end-length, fill-up, fill-inside}
 
 pub level-le : (ecl : QrCodeEcc) → levelOf ecl ≤ 3
@@ -38,7 +39,7 @@ module _ (v l : ℕ) (ss : List Segment) (buf₀ : List ℕ) (z : buf₀ ≡ rep
   pub stream-room : length (stream v ss) ≤ 8 * dataCodewords v l
   unfolding fits capacity
   stream-room =
-      subst (λ (k : ℕ). k ≤ 8 * dataCodewords v l) (sym (total-length v ss))
+      subst (λ (k : ℕ). k ≤ 8 * dataCodewords v l) (sym (stream-length v ss))
       (leb→le (totalBits v ss) (8 * dataCodewords v l) (and-right (lengthsFit v ss) (leb (totalBits v ss) (8 * dataCodewords v l)) t))
 
   zeros-free : (bs : List ℕ) → length bs ≤ 8 * dataCodewords v l → Free buf₀ 0 bs

@@ -1,8 +1,8 @@
 -- The blocks of all 160 pairs of version and level, as libqrencode 4.1.1, an encoder that others wrote, has them:
 -- a row for each version, and in it for each level short blocks, data bytes in one, check bytes in one, long blocks.
 -- Assumes nothing.
-use Prim.Native.Nat.{ℕ, _+_, _-_}
-use mathlib.Core.List.{List, [], _∷_, _++_}
+use Prim.Native.Nat.{ℕ, _-_}
+use mathlib.Core.List.{List, [], _∷_}
 use mathlib.Core.Path.{_≡_, refl}
 use Rattle.standard.specs.Numbers.{from, tabulate, join}
 use Rattle.standard.specs.Sizes.{checkBytes, blocks, shortBlocks, shortLength}

@@ -6,18 +6,18 @@ use mathlib.Core.Bool.{Bool, true, false, _&&_}
 use mathlib.Core.List.{List, [], _∷_}
 use mathlib.Core.Path.{_≡_, refl}
 use lib.Dec.{T}
-use lib.IntN.{ℤ, pos, negsuc}
+use lib.IntN.{pos, negsuc}
 use lib.ListN.{replicate}
 use Rattle.standard.specs.Numbers.{same, tabulate}
 use Rattle.standard.specs.Sizes.{capacity, checkBytes, blocks}
 use Rattle.standard.specs.Kinds.{code, pairNumber}
-use Rattle.standard.specs.Segments.{Part, Segment, segmentsOf, whole, textParts, byteParts, totalBits}
+use Rattle.standard.specs.Segments.{Part, segmentsOf, whole, textParts, byteParts, totalBits}
 use Rattle.standard.specs.Codewords.{dataWords}
 use Rattle.standard.specs.Field.{divisor}
 use Rattle.standard.specs.Blocks.{blockLength}
 use Rattle.standard.specs.Patterns.{alignment}
 use Rattle.standard.specs.Format.{formatWord, versionWord}
-use Rattle.standard.specs.Plan.{Refusal, Plan, unplanned, planned, plan}
+use Rattle.standard.specs.Plan.{Plan, unplanned, planned, plan}
 use Rattle.standard.specs.Module.{dark}
 use Rattle.standard.proofs.Open.{opened}
 

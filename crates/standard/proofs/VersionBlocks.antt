@@ -1,6 +1,6 @@
 -- The two version blocks of version 7, as the Rust original draws them, row by row.
 -- Assumes nothing.
-use Prim.Native.Nat.{ℕ, _+_}
+use Prim.Native.Nat.{ℕ}
 use mathlib.Core.List.{List, [], _∷_}
 use mathlib.Core.Path.{_≡_, refl}
 use Rattle.standard.specs.Numbers.{from, join}

@@ -2,18 +2,18 @@
 -- Scored with mask 0's format bits for each candidate, the choice would be 6 and not 1.
 -- Assumes nothing.
 use Prim.Native.Nat.{ℕ, _≤_}
-use mathlib.Core.Bool.{Bool, false}
+use mathlib.Core.Bool.{false}
 use mathlib.Core.List.{List, [], _∷_}
-use mathlib.Core.Path.{_≡_, refl, sym, ap, ap₂, _∙_}
+use mathlib.Core.Path.{_≡_, refl, ap, _∙_}
 use lib.ListN.{length}
 use borrow.Author.Tests.{le-ltb}
-use Rattle.standard.specs.Segments.{Segment, segmentsOf, textParts}
+use Rattle.standard.specs.Segments.{segmentsOf, textParts}
 use Rattle.standard.specs.Codewords.{dataWords}
 use Rattle.standard.specs.Blocks.{allWords}
 use Rattle.standard.specs.Grid.{content, grid}
 use Rattle.standard.specs.Choice.{scores, chosen, placeOfLeast, lowest}
 use Rattle.standard.specs.Plan.{Plan, planned, plan}
-use Rattle.standard.specs.Encode.{Return, accept, drawn, draw, drawPlan, encode, encodeText}
+use Rattle.standard.specs.Encode.{accept, drawn, draw, drawPlan, encode, encodeText}
 use Rattle.standard.proofs.Open.{opened}
 
 pub click : List ℕ

@@ -2,7 +2,7 @@
 -- Document 01, "Modules". Assumes nothing.
 use Prim.Native.Nat.{ℕ, zero, suc, _+_, _-_, _*_, _/_, _^_, min, max}
 use mathlib.Core.Bool.{Bool, cond, _&&_, _||_}
-use mathlib.Core.List.{List, [], _∷_}
+use mathlib.Core.List.{[], _∷_}
 use lib.Dec.{leb, ltb, eqb}
 use lib.Bits.{bitXor}
 use lib.ListN.{getD}

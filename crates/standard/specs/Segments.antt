@@ -1,6 +1,6 @@
 -- Segments: the records that a caller hands in, what they mean, and their bits.
 -- Document 01, "What the label covers" and "From text to codewords". Assumes nothing.
-use Prim.Native.Nat.{ℕ, zero, suc, _+_, _^_}
+use Prim.Native.Nat.{ℕ, suc, _+_, _^_}
 use mathlib.Core.Bool.{Bool, true, false, cond, _&&_}
 use mathlib.Core.List.{List, [], _∷_, _++_, map}
 use lib.Dec.{leb, ltb, eqb}

@@ -2,7 +2,7 @@
 -- Document 01, "What the label covers" and "Blocks and field". Assumes nothing.
 use Prim.Native.Nat.{ℕ, _+_, _-_, _*_, _/_, _%_}
 use mathlib.Core.Bool.{cond}
-use mathlib.Core.List.{List, []}
+use mathlib.Core.List.{[]}
 use lib.Dec.{leb}
 use lib.ListN.{getD}
 use Rattle.standard.specs.Tables.{checkTable, blockTable}

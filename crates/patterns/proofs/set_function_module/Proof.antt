@@ -1,7 +1,7 @@
 -- `set_function_module` stores one module.
 -- Assumes nothing.
 use borrow.Author.Needs.{needs}
-use Rattle.laws.specs.Whole.{store}
+use Rattle.laws.specs.Store.{store}
 use Rattle.patterns.proofs.set_function_module.Statement.{statement}
 use Rattle.patterns.proofs.set_function_module.Tie as tie
 
