@@ -1,8 +1,8 @@
 -- What each return of the code shows, as a law: a variant that is known, and what is told of it.
 -- Assumes nothing.
 use Prim.Native.Nat.{ℕ, _<_, _^_}
-use mathlib.Core.List.{List}
 use mathlib.Core.Bool.{Bool}
+use mathlib.Core.List.{List}
 use mathlib.Core.Path.{_≡_, sym, ap, ap₂, _∙_}
 use native.Mathlib.Omega.{arith}
 use lib.IntN.{ℤ}
@@ -27,7 +27,7 @@ use Rattle.reader.specs.declared.Outcome.the-variants.{Label as ReadLabel, Refu
 use Rattle.reader.specs.Answers.{refusalOf, readOf, answerOf as readAnswerOf}
 use Rattle.gatemurmur.specs.declared.Answer.{Answer as AnswerNumbers}
 use Rattle.gatemurmur.specs.declared.Reading.{Reading as ReadingNumbers}
-use Rattle.gatemurmur.specs.Told.{answerAs, Told, told, readingAs, ReadTold, readTold, Tells}
+use Rattle.gatemurmur.specs.Told.{answerAs, Told, told, readingAs, Tells}
 
 -- a level is a byte
 pub level-byte : (ecl : QrCodeEcc) (n : ℕ) → n ≡ levelOf ecl → n < 2 ^ 8
