@@ -8,6 +8,7 @@ pub mod Trip
 pub mod Work
 pub mod Finished
 pub mod Back
+pub mod Again
 pub mod Question
 pub mod FormatBack
 pub mod Reading

@@ -23,6 +23,7 @@ ghost use Rattle.laws.specs.Each.{each};
 ghost use Rattle.types.specs.Numbers.{levelOf, IsVersion, IsMask};
 ghost use Rattle.modules.specs.Zigzag.{bitOf, Laid, Laid.laid, layAt, walk, drawn};
 ghost use Rattle.modules.specs.Work.{work};
+ghost use Rattle.modules.specs.Again.{blanked, Worked};
 
 /*---- Codewords ----*/
 
@@ -154,6 +155,28 @@ pub fn draw_label(grid: &mut [u8], ver: Version, ecl: QrCodeEcc, mask: Mask, cod
     ensures { λ _. ⌜ now (grid .exit) ≡ gridOf (ver .0) (levelOf ecl) (mask .0) (content (ver .0) (now (codewords .entry))) ⌝ }
 {
     draw_modules(grid, ver, ecl, mask, codewords);
+    apply_mask(grid, ver, mask);
+    patterns::draw_format_bits(grid, ver, ecl, mask);
+    finish(grid);
+}
+
+// Makes every data module light.
+fn blank(grid: &mut [u8])
+    ensures { λ _. ⌜ now (grid .exit) ≡ blanked (now (grid .entry)) ⌝ }
+{
+    for k in 0..grid.len() {
+        grid[k] = read::taken(grid[k], 0);
+    }
+}
+
+// The same over a grid that has the function modules already, as reading leaves it.
+pub fn redraw_label(grid: &mut [u8], ver: Version, ecl: QrCodeEcc, mask: Mask, codewords: &[u8])
+    requires { ⌜ Square (now grid) (side (ver .0)) ⌝ }
+    requires { ⌜ IsVersion ver × IsMask mask × (length (now codewords) ≤ 4096) × Worked (ver .0) (now grid) ⌝ }
+    ensures { λ _. ⌜ now (grid .exit) ≡ gridOf (ver .0) (levelOf ecl) (mask .0) (content (ver .0) (now (codewords .entry))) ⌝ }
+{
+    blank(grid);
+    draw_codewords(grid, ver, codewords);
     apply_mask(grid, ver, mask);
     patterns::draw_format_bits(grid, ver, ecl, mask);
     finish(grid);

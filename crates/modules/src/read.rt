@@ -126,7 +126,7 @@ fn read_bits(grid: &[u8], size: usize, out: &mut [u8])
 }
 
 // A function module stays, a data module becomes d.
-fn taken(c: u8, d: u8) -> u8
+pub fn taken(c: u8, d: u8) -> u8
     ensures { λ r. ⌜ r ≡ cond (ltb c 2) d c ⌝ }
 {
     if c < 2 { d } else { c }

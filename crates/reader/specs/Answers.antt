@@ -13,7 +13,7 @@ use Rattle.reader.specs.declared.Outcome.{Outcome}
 use Rattle.reader.specs.declared.Outcome.the-variants.{Refused, Label}
 use Rattle.reader.specs.declared.Early.{Early}
 use Rattle.reader.specs.declared.Early.the-variants.{Fine, Refused as Stopped}
-use Rattle.standard.specs.Read.{Reading, unread, readAs, Read, nothing, refusedBy, firstRefusal}
+use Rattle.standard.specs.Read.{Reading, unread, readAs, Read, firstAbove, nothing, refusedBy, firstRefusal}
 
 abbrev pub refusalOf : Refusal → Numbered
 refusalOf (Side s) = refusal 11 s 0
@@ -35,4 +35,4 @@ readOf r text records scratch = record { answer = answerOf r; text = text; recor
 -- what the first checks say
 abbrev pub Checks : List ℕ → ℕ → ℕ → Early → Type 0
 Checks g s room (Stopped e) = firstRefusal g s room ≡ refusedBy (refusalOf e)
-Checks g s room (Fine v) = (firstRefusal g s room ≡ nothing) × IsVersion v × (s ≡ side (v .0)) × (length g ≡ side (v .0) * side (v .0)) × (40_000 ≤ room)
+Checks g s room (Fine v) = (firstRefusal g s room ≡ nothing) × IsVersion v × (s ≡ side (v .0)) × (length g ≡ side (v .0) * side (v .0)) × (40_000 ≤ room) × (length g ≤ firstAbove g)

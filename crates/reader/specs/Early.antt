@@ -1,16 +1,17 @@
 -- The first checks: the version of a side, the first byte above 1, whether two lists are the same, and the refusal that comes first.
 -- Assumes nothing.
-use Prim.Native.Nat.{ℕ, suc, _+_, _-_, _*_, _/_, _%_, _≤_, _<_}
+use Prim.Native.Nat.{ℕ, zero, suc, _+_, _-_, _*_, _/_, _%_, _≤_, _<_}
 use mathlib.Core.Bool.{Bool, true, false, cond, _&&_}
 use mathlib.Core.List.{List}
 use mathlib.Core.Path.{_≡_, refl, sym, ap, ap₂, _∙_}
-use native.Mathlib.Nat.{mul-le-mul}
+use mathlib.Core.Logic.{⊎-elim}
+use native.Mathlib.Nat.{mul-le-mul, eq-or-lt-of-le}
 use native.Mathlib.Numerals.{add-one}
 use native.Mathlib.Omega.{arith}
 use lib.Dec.{ltb, eqb}
 use lib.ListN.{length, getD, drop, drop-of-length-le}
 use lib.Seq.{drop-cons}
-use borrow.Author.Tests.{lt-ltb, le-ltb, eq-eqb, ne-eqb}
+use borrow.Author.Tests.{lt-ltb, le-ltb, eq-eqb, ne-eqb, ltb-false}
 use Rattle.standard.specs.Numbers.{least, same}
 use Rattle.standard.specs.Sizes.{side}
 use Rattle.standard.specs.Plan.{refusal}
@@ -40,6 +41,16 @@ version-side s low high e = rw (← valid-rest s low high, eq-eqb (s % 4) 1 e)
 unfoldable pub aboveFrom : List ℕ → ℕ → ℕ
 aboveFrom g i = least i (length g - i) (λ j. ltb 1 (getD g j 0))
 
+-- before the lowest at which a test passes, it does not
+least-before : (p : ℕ → Bool) (k n i : ℕ) → k ≤ i → i < least k n p → p i ≡ false
+least-before p k zero i a b = absurd (omega arith)
+least-before p k (suc n) i a b = go (p k) refl b (λ more l. least-before p (suc k) n i more l)
+  where
+    go : (t : Bool) → p k ≡ t → i < elim t as (λ _. ℕ) [ true ↦ k | false ↦ least (suc k) n p ]
+        → (suc k ≤ i → i < least (suc k) n p → p i ≡ false) → p i ≡ false
+    go true e l rest = absurd (omega arith)
+    go false e l rest = ⊎-elim (λ same. ap p (sym same) ∙ e) (λ more. rest more l) (eq-or-lt-of-le a)
+
 module _ (g : List ℕ) where
   pub above-start : firstAbove g ≡ aboveFrom g 0
   unfolding firstAbove aboveFrom
@@ -61,6 +72,12 @@ module _ (g : List ℕ) where
   pub above-end : (i : ℕ) → firstAbove g ≡ aboveFrom g i → i ≤ length g → length g ≤ i → i ≡ firstAbove g
   unfolding aboveFrom
   above-end i e h k = let z : length g - i ≡ 0 = omega arith in sym (e ∙ ap (λ (n : ℕ). least i n (λ j. ltb 1 (getD g j 0))) z)
+
+  -- where none is above 1, every byte is 0 or 1
+  pub above-none : length g ≤ firstAbove g → (i : ℕ) → i < length g → getD g i 0 < 2
+  unfolding firstAbove
+  above-none h i b =
+      omega (arith, ltb-false 1 (getD g i 0) (least-before (λ j. ltb 1 (getD g j 0)) 0 (length g) i (omega arith) (omega arith)))
 
 -- ---- two lists
 
@@ -143,6 +160,9 @@ module _ (g : List ℕ) (s room v : ℕ) (e : v ≡ versionIn s) where
 
     pub sided-most : v ≤ 40
     sided-most = sided s v e n .most
+
+    pub fine-bytes : (at : ℕ) → at ≡ firstAbove g → length g ≤ at → length g ≤ firstAbove g
+    fine-bytes at q h = omega arith
 
     pub fine-least : (w : ℕ) → w ≡ v → 1 ≤ w
     fine-least w q = omega (arith, sided s v e n .least)

@@ -10,6 +10,7 @@ use lib.Seq.{drop-append-add, drop-drop}
 use Rattle.standard.specs.Sizes.{side, rawModules, rawCodewords, dataCodewords}
 use Rattle.standard.specs.Encode.{zeroed}
 use Rattle.laws.specs.Grid.{Square}
+use Rattle.modules.specs.Work.{Small}
 use Rattle.laws.specs.Lists.{length-tabulate}
 use Rattle.types.specs.declared.Version.{Version}
 use Rattle.types.specs.declared.QrCodeEcc.{QrCodeEcc}
@@ -20,7 +21,8 @@ use Rattle.reader.specs.declared.Outcome.{Outcome}
 use Rattle.reader.specs.declared.Outcome.the-variants.{Refused}
 use Rattle.reader.specs.declared.Early.{Early}
 use Rattle.reader.specs.declared.Early.the-variants.{Fine, Refused as Stopped}
-use Rattle.standard.specs.Read.{Read, nothing, refusedBy, firstRefusal, Finds, Reads, refuses, looks}
+use Rattle.reader.specs.Early.{above-none}
+use Rattle.standard.specs.Read.{Read, firstAbove, nothing, refusedBy, firstRefusal, Finds, Reads, refuses, looks}
 use Rattle.reader.specs.Answers.{refusalOf, readOf, Checks}
 use Rattle.reader.specs.Recovered.{raw-fits, data-fits, Looks}
 
@@ -79,7 +81,7 @@ module _ (g : List ℕ) (s : ℕ) (scratch : List ℕ) (e : Early) (is : Checks 
       refuses (refusalOf f) k refl
 
   module _ (v : Version) (was : e ≡ Fine v) where
-    fine : (firstRefusal g s (length scratch) ≡ nothing) × IsVersion v × (s ≡ side (v .0)) × (length g ≡ side (v .0) * side (v .0)) × (40_000 ≤ length scratch)
+    fine : (firstRefusal g s (length scratch) ≡ nothing) × IsVersion v × (s ≡ side (v .0)) × (length g ≡ side (v .0) * side (v .0)) × (40_000 ≤ length scratch) × (length g ≤ firstAbove g)
     fine = subst (Checks g s (length scratch)) was is
 
     pub fine-version : IsVersion v
@@ -90,6 +92,9 @@ module _ (g : List ℕ) (s : ℕ) (scratch : List ℕ) (e : Early) (is : Checks 
 
     pub fine-room : 40_000 ≤ length scratch
     fine-room = fine .4
+
+    pub fine-small : Small (v .0) g
+    fine-small i h = above-none g (fine .5) i (omega (arith, fine .3))
 
     pub reads-found : (text records : List ℕ) (out : Read) → Finds g text records (zeroed scratch) out → Reads g s text records scratch out
     reads-found text records out f = looks (fine .0) f

@@ -16,7 +16,9 @@ ghost use Rattle.laws.specs.Grid.{Square};
 ghost use Rattle.types.specs.Numbers.{levelOf, IsVersion, IsMask};
 ghost use Rattle.blocks.specs.Undo.{dataOf};
 ghost use Rattle.modules.specs.FormatBack.{readLevel, readMask};
-ghost use Rattle.modules.specs.Back.{readWords};
+ghost use Rattle.modules.specs.Work.{Small};
+ghost use Rattle.modules.specs.Back.{readGrid, readWords};
+ghost use Rattle.modules.specs.Again.{Worked};
 ghost use Rattle.standard.specs.Read.{Finds, Reads};
 ghost use Rattle.reader.specs.Answers.{readOf};
 ghost use Rattle.reader.specs.Told.{Tells};
@@ -90,12 +92,13 @@ fn read_data(
     requires { ⌜ Square (now work) (side (ver .0)) ⌝ }
     requires { ⌜ IsVersion ver × IsMask mask × (length (now all) ≡ rawCodewords (ver .0)) × (length (now «data») ≡ dataCodewords (ver .0) (levelOf ecl)) ⌝ }
     ensures { λ _. ⌜ now («data» .exit) ≡ dataOf (ver .0) (levelOf ecl) (readWords (ver .0) (levelOf ecl) (mask .0) (now (grid .entry)) (now (all .entry))) ⌝ }
+    ensures { λ _. ⌜ now (work .exit) ≡ readGrid (ver .0) (levelOf ecl) (mask .0) (now (grid .entry)) ⌝ }
 {
     modules::read_codewords(grid, work, ver, ecl, mask, all);
     blocks::data_words(ver, ecl, all, data);
 }
 
-// Draws data codewords again, check bytes and all, and answers whether that is the whole grid.
+// Draws data codewords again, check bytes and all, and answers whether that is the whole grid. Reading has left its function modules in work.
 fn draws_again(
     grid: &[u8],
     ver: Version,
@@ -107,11 +110,11 @@ fn draws_again(
 ) -> bool
     requires { ⌜ Square (now grid) (side (ver .0)) ⌝ }
     requires { ⌜ Square (now work) (side (ver .0)) ⌝ }
-    requires { ⌜ IsVersion ver × IsMask mask × (length (now all) ≡ rawCodewords (ver .0)) × (length (now «data») ≡ dataCodewords (ver .0) (levelOf ecl)) ⌝ }
+    requires { ⌜ IsVersion ver × IsMask mask × (length (now all) ≡ rawCodewords (ver .0)) × (length (now «data») ≡ dataCodewords (ver .0) (levelOf ecl)) × Worked (ver .0) (now work) ⌝ }
     ensures { λ r. ⌜ r ≡ same (now (grid .entry)) (gridOf (ver .0) (levelOf ecl) (mask .0) (content (ver .0) (allWords (ver .0) (levelOf ecl) (now («data» .entry))))) ⌝ }
 {
     blocks::add_ecc_and_interleave(ver, ecl, data, all);
-    modules::draw_label(work, ver, ecl, mask, all);
+    modules::redraw_label(work, ver, ecl, mask, all);
     equal(grid, work)
 }
 
@@ -167,7 +170,7 @@ fn read_words(
     requires { ⌜ Square (now grid) (side (ver .0)) ⌝ }
     requires { ⌜ Square (now work) (side (ver .0)) ⌝ }
     requires { ⌜ IsVersion ver × IsMask mask × (length (now all) ≡ rawCodewords (ver .0)) × (length (now «data») ≡ dataCodewords (ver .0) (levelOf ecl)) ⌝ }
-    requires { ⌜ (levelOf ecl ≡ readLevel (side (ver .0)) (now grid)) × (mask .0 ≡ readMask (side (ver .0)) (now grid)) ⌝ }
+    requires { ⌜ (levelOf ecl ≡ readLevel (side (ver .0)) (now grid)) × (mask .0 ≡ readMask (side (ver .0)) (now grid)) × Small (ver .0) (now grid) ⌝ }
     ensures { λ r. ⌜ Looks (now (grid .entry)) (now (text .entry)) (now (records .entry)) r (now (text .exit)) (now (records .exit)) ⌝ }
 {
     read_data(grid, ver, ecl, mask, work, all, data);
@@ -187,7 +190,7 @@ fn read_square(
 ) -> Outcome
     requires { ⌜ Square (now grid) (side (ver .0)) ⌝ }
     requires { ⌜ Square (now work) (side (ver .0)) ⌝ }
-    requires { ⌜ IsVersion ver ⌝ }
+    requires { ⌜ IsVersion ver × Small (ver .0) (now grid) ⌝ }
     ensures { λ r. ⌜ Looks (now (grid .entry)) (now (text .entry)) (now (records .entry)) r (now (text .exit)) (now (records .exit)) ⌝ }
 {
     let ecl = modules::read_level(grid, ver);
@@ -228,7 +231,7 @@ fn read_checked(
     scratch: &mut [u8],
 ) -> Outcome
     requires { ⌜ Square (now grid) (side (ver .0)) ⌝ }
-    requires { ⌜ IsVersion ver × (40000 ≤ length (now scratch)) ⌝ }
+    requires { ⌜ IsVersion ver × (40000 ≤ length (now scratch)) × Small (ver .0) (now grid) ⌝ }
     ensures { λ r. ⌜ Finds (now (grid .entry)) (now (text .entry)) (now (records .entry)) (zeroed (now (scratch .entry))) (readOf r (now (text .exit)) (now (records .exit)) (now (scratch .exit))) ⌝ }
 {
     let size = patterns::size_of(ver);

@@ -8,8 +8,8 @@ use Rattle.reader.proofs.draws_again.Tie as tie
 add-ecc-and-interleave-requires : tie.Need-add-ecc-and-interleave-requires
 add-ecc-and-interleave-requires c κs = search needs
 
-draw-label-requires : tie.Need-draw-label-requires
-draw-label-requires c κs = search (all-small, needs)
+redraw-label-requires : tie.Need-redraw-label-requires
+redraw-label-requires c κs = search (all-small, needs)
 
 equal-requires : tie.Need-equal-requires
 equal-requires c κs = search needs
@@ -28,7 +28,7 @@ draws-again-spec =
     tie.close
     (tie.spec
     add-ecc-and-interleave-requires
-    draw-label-requires
+    redraw-label-requires
     equal-requires
     same-length
     same-length-2

@@ -1,7 +1,7 @@
 -- `read` meets the reader's relation.
 -- Assumes nothing.
 use borrow.Author.Needs.{needs}
-use Rattle.reader.specs.Entry.{fine-grid, fine-version, fine-room, reads-found, reads-refused}
+use Rattle.reader.specs.Entry.{fine-grid, fine-version, fine-room, fine-small, reads-found, reads-refused}
 use Rattle.reader.proofs.read.Statement.{statement}
 use Rattle.reader.proofs.read.Tie as tie
 
@@ -12,7 +12,7 @@ enum-known-e : tie.Need-enum-known-e
 enum-known-e c = search needs
 
 read-checked-requires : tie.Need-read-checked-requires
-read-checked-requires c κs = (search (fine-grid, needs), (search (fine-version, needs), search (fine-room, needs)))
+read-checked-requires c κs = (search (fine-grid, needs), (search (fine-version, needs), search (fine-room, needs), search (fine-small, needs)))
 
 enum-known-e-2 : tie.Need-enum-known-e-2
 enum-known-e-2 c = search needs

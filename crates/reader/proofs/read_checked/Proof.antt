@@ -31,7 +31,7 @@ part-read-square-end c =
 read-square-requires : tie.Need-read-square-requires
 read-square-requires c κs =
     let start = c .before .before .before .before .before .before .before .before in
-    (start .pre .0, (area-square _ _ _ (c .before .before .before .size-of .ensures) (start .pre .1 .0 .1) (start .pre .1 .1), start .pre .1 .0))
+    (start .pre .0, (area-square _ _ _ (c .before .before .before .size-of .ensures) (start .pre .1 .0 .1) (start .pre .1 .1), (start .pre .1 .0, start .pre .1 .2)))
 
 sub-zero : tie.Need-sub-zero
 sub-zero c = search needs

@@ -21,7 +21,7 @@ same-length-3 : tie.Need-same-length-3
 same-length-3 c = search needs
 
 returns : tie.Need-returns
-returns c = search (data-read, needs)
+returns c = (search (data-read, needs), search needs)
 
 pub read-data-spec : {M : Type 1} → statement M
 read-data-spec =

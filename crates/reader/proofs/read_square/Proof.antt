@@ -57,12 +57,12 @@ read-words-requires c κs =
         start .pre .1 .0,
         (
           (
-            known,
+            known .0,
             omega (arith, mask .ensures, number .ensures .1),
-            raw-part (ver .0) _ _ (raw .ensures) (known .0) (known .1) (lit≤ tt),
-            data-part (ver .0) _ (level .result) _ (long .ensures) (known .0) (known .1) (lit≤ tt),
+            raw-part (ver .0) _ _ (raw .ensures) (known .0 .0) (known .0 .1) (lit≤ tt),
+            data-part (ver .0) _ (level .result) _ (long .ensures) (known .0 .0) (known .0 .1) (lit≤ tt),
           ),
-          (level .ensures, mask .ensures ∙ number .ensures .0),
+          (level .ensures, mask .ensures ∙ number .ensures .0, known .1),
         ),
       ),
     )

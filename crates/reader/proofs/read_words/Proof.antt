@@ -2,6 +2,7 @@
 -- Assumes nothing.
 use mathlib.Core.Path.{refl}
 use borrow.Author.Needs.{needs}
+use Rattle.modules.specs.Again.{read-worked}
 use Rattle.reader.specs.Recovered.{looks-none, looks-told}
 use Rattle.reader.specs.Entry.{data-long}
 use Rattle.reader.proofs.read_words.Statement.{statement}
@@ -11,7 +12,10 @@ read-data-requires : tie.Need-read-data-requires
 read-data-requires c κs = search needs
 
 draws-again-requires : tie.Need-draws-again-requires
-draws-again-requires c κs = search needs
+draws-again-requires c κs =
+    let words = c .before .before .before .before .before .before .before .before .before in
+    let start = words .before .before .before .before .before .before .before .before .before .before in
+    (search needs, (search needs, (search needs, search needs, search needs, search needs, read-worked _ _ _ _ _ (words .read-data .ensures .1) (start .pre .1 .1 .1 .2))))
 
 same-length : tie.Need-same-length
 same-length c = search needs
@@ -29,7 +33,7 @@ tell-requires : tie.Need-tell-requires
 tell-requires c κs =
     let words = c .before .before .before .before .before .before .before .before .before .before .before .before .before .before .before .before .before .before in
     let sizes = words .before .before .before .before .before .before .before .before .before .before .pre .1 .1 .0 in
-    (sizes .0, sizes .1, data-long _ _ _ _ (words .read-data .ensures))
+    (sizes .0, sizes .1, data-long _ _ _ _ (words .read-data .ensures .0))
 
 same-length-4 : tie.Need-same-length-4
 same-length-4 c = search needs
@@ -54,7 +58,7 @@ returns-2 c =
     let start = words .before .before .before .before .before .before .before .before .before .before in
     let sizes = start .pre .1 .1 .0 in
     let format = start .pre .1 .1 .1 in
-    looks-told _ _ _ _ _ _ (start .pre .0 .size) (format .0) (format .1) (sizes .2) (words .read-data .ensures) _ (again .draws-again .ensures)
+    looks-told _ _ _ _ _ _ (start .pre .0 .size) (format .0) (format .1) (sizes .2) (words .read-data .ensures .0) _ (again .draws-again .ensures)
     (start .args .ecl) _ _ _ _ _ (tells .tell .ensures) (tells .before .before .before .before .if1 .left) (sizes .0 .0) (sizes .0 .1) refl (sizes .1)
 
 pub read-words-spec : {M : Type 1} → statement M

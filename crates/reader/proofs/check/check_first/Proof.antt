@@ -1,7 +1,7 @@
 -- `check_first` gives the refusal that comes first.
 -- Assumes nothing.
 use borrow.Author.Needs.{needs}
-use Rattle.reader.specs.Early.{first-side, area-fits, first-length, first-byte, first-scratch, first-none, sided-least, sided-most, fine-least, fine-most, fine-side, fine-square}
+use Rattle.reader.specs.Early.{first-side, area-fits, first-length, first-byte, first-scratch, first-none, sided-least, sided-most, fine-least, fine-most, fine-side, fine-square, fine-bytes}
 use Rattle.reader.proofs.check.check_first.Statement.{statement}
 use Rattle.reader.proofs.check.check_first.Tie as tie
 
@@ -30,7 +30,7 @@ version-at-requires : tie.Need-version-at-requires
 version-at-requires c κs = (search (sided-least, needs), search (sided-most, needs))
 
 returns-5 : tie.Need-returns-5
-returns-5 c = (search (first-none, needs), (search (fine-least, needs), search (fine-most, needs)), search (fine-side, needs), search (fine-square, needs), search needs)
+returns-5 c = (search (first-none, needs), (search (fine-least, needs), search (fine-most, needs)), search (fine-side, needs), search (fine-square, needs), search needs, search (fine-bytes, needs))
 
 pub check-first-spec : {M : Type 1} → statement M
 check-first-spec =
