@@ -1,9 +1,9 @@
--- `replay_segments::lines::same_bits` meets its contract: the bits passed so far agree; what is compared lies in the buffer.
+-- `replay_segments::same_bits` meets its contract: the bits passed so far agree; what is compared lies in the buffer.
 -- Assumes nothing.
 use Prim.Native.Nat.{_-_, _≤_}
 use borrow.Author.Needs.{needs}
-use Rattle.replay_segments.proofs.lines.same_bits.Statement.{statement}
-use Rattle.replay_segments.proofs.lines.same_bits.Tie as tie
+use Rattle.replay_segments.proofs.same_bits.Statement.{statement}
+use Rattle.replay_segments.proofs.same_bits.Tie as tie
 
 abbrev Inv-loop : tie.InvT-loop
 Inv-loop bb end line i₀ i = i ≤ end

@@ -1,4 +1,4 @@
--- `replay_segments::lines::zero` meets its contract: the bytes passed so far are zero.
+-- `replay_segments::zero` meets its contract: the bytes passed so far are zero.
 -- Assumes nothing.
 use Prim.Native.Nat.{_-_, _≤_}
 use mathlib.Core.Path.{_≡_, ap, _∙_}
@@ -9,8 +9,8 @@ use lib.ListN.{replicate, length-set}
 use Rattle.replay_segments.specs.Facts.{zeros-end}
 use borrow.Author.Needs.{needs}
 use lib.ListN.{length, set, drop}
-use Rattle.replay_segments.proofs.lines.zero.Statement.{statement}
-use Rattle.replay_segments.proofs.lines.zero.Tie as tie
+use Rattle.replay_segments.proofs.zero.Statement.{statement}
+use Rattle.replay_segments.proofs.zero.Tie as tie
 
 abbrev Inv-loop : tie.InvT-loop
 Inv-loop bb₀ n i₀ bb i = (bb ≡ replicate i 0 ++ drop i bb₀) × (i ≤ n) × (length bb ≡ length bb₀)

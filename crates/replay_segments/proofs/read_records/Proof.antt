@@ -1,11 +1,11 @@
--- `replay_segments::lines::read_records` meets its contract: the list keeps its length.
+-- `replay_segments::read_records` meets its contract: the list keeps its length.
 -- Assumes nothing.
 use Prim.Native.Nat.{_-_, _≤_}
 use mathlib.Core.Path.{_≡_}
 use borrow.Author.Needs.{needs}
 use lib.ListN.{length}
-use Rattle.replay_segments.proofs.lines.read_records.Statement.{statement}
-use Rattle.replay_segments.proofs.lines.read_records.Tie as tie
+use Rattle.replay_segments.proofs.read_records.Statement.{statement}
+use Rattle.replay_segments.proofs.read_records.Tie as tie
 
 abbrev Inv-loop : tie.InvT-loop
 Inv-loop records₀ count i₀ records i = (i ≤ count) × (length records ≡ length records₀)
