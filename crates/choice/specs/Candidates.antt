@@ -25,17 +25,19 @@ use Rattle.penalty.specs.Choice.{Best, best-start, best-next, best-same, best-e
 unfoldable pub candidate : ℕ → ℕ → ℕ → List ℕ → List ℕ
 candidate v l m g = paint (side v) (formats (side v) (formatWord l m)) (paint (side v) (masked m) g)
 
-module _ (v l m : ℕ) (g a b : List ℕ) (e : a ≡ paint (side v) (masked m) g) (f : b ≡ paint (side v) (formats (side v) (formatWord l m)) a) where
+module _ (v l m i j : ℕ) (g a b : List ℕ) (e : a ≡ paint (side v) (masked i) g) (f : b ≡ paint (side v) (formats (side v) (formatWord l j)) a) (p : i ≡ m) (q : j ≡ m) where
   -- the candidate as it is drawn
   is-candidate : b ≡ candidate v l m g
   unfolding candidate
-  is-candidate = f ∙ ap (paint (side v) (formats (side v) (formatWord l m))) e
+  is-candidate =
+      f ∙ ap (λ (k : ℕ). paint (side v) (formats (side v) (formatWord l k)) a) q
+      ∙ ap (paint (side v) (formats (side v) (formatWord l m))) (e ∙ ap (λ (k : ℕ). paint (side v) (masked k) g) p)
 
   pub score-is : (r s : ℕ) → r ≡ penalty s (colours b) → s ≡ side v → r ≡ penalty (side v) (colours (candidate v l m g))
-  score-is r s d q = d ∙ ap (λ (n : ℕ). penalty n (colours b)) q ∙ ap (λ (h : List ℕ). penalty (side v) (colours h)) is-candidate
+  score-is r s d w = d ∙ ap (λ (n : ℕ). penalty n (colours b)) w ∙ ap (λ (h : List ℕ). penalty (side v) (colours h)) is-candidate
 
-  pub undone-is : (c : List ℕ) → c ≡ paint (side v) (masked m) b → c ≡ paint (side v) (masked m) (candidate v l m g)
-  undone-is c d = d ∙ ap (paint (side v) (masked m)) is-candidate
+  pub undone-is : (k : ℕ) (c : List ℕ) → c ≡ paint (side v) (masked k) b → k ≡ m → c ≡ paint (side v) (masked m) (candidate v l m g)
+  undone-is k c d w = d ∙ ap (λ (n : ℕ). paint (side v) (masked n) b) w ∙ ap (paint (side v) (masked m)) is-candidate
 
 -- its length, by the side as a number
 pub candidate-size : (v m word s : ℕ) (g a b : List ℕ) → b ≡ paint (side v) (formats (side v) word) a → a ≡ paint (side v) (masked m) g → Square g (side v) → s ≡ side v

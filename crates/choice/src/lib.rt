@@ -7,7 +7,7 @@ ghost use Rattle.standard.specs.Grid.{content, grid as gridOf};
 ghost use Rattle.standard.specs.Penalty.{penalty};
 ghost use Rattle.standard.specs.Choice.{chosen};
 ghost use Rattle.laws.specs.Grid.{Square, paint};
-ghost use Rattle.types.specs.Numbers.{levelOf, IsVersion, IsMask};
+ghost use Rattle.types.specs.Numbers.{levelOf, IsVersion};
 ghost use Rattle.modules.specs.Mask.{masked};
 ghost use Rattle.penalty.specs.Lines.{colours};
 ghost use Rattle.choice.specs.Candidates.{candidate, Chooses};
@@ -15,16 +15,16 @@ use types::Mask;
 use types::QrCodeEcc;
 use types::Version;
 
-// Scores one candidate on the whole grid, with its own mask and its own format bits, and takes the mask off again.
-fn score_mask(grid: &mut [u8], ver: Version, ecl: QrCodeEcc, mask: Mask) -> u32
+// Scores candidate i on the whole grid, with its own mask and its own format bits, and takes the mask off again.
+fn score_mask(grid: &mut [u8], ver: Version, ecl: QrCodeEcc, i: u8) -> u32
     requires { ⌜ Square (now grid) (side (ver .0)) ⌝ }
-    requires { ⌜ IsVersion ver × IsMask mask ⌝ }
-    ensures { λ r. ⌜ (r ≡ penalty (side (ver .0)) (colours (candidate (ver .0) (levelOf ecl) (mask .0) (now (grid .entry))))) × (now (grid .exit) ≡ paint (side (ver .0)) (masked (mask .0)) (candidate (ver .0) (levelOf ecl) (mask .0) (now (grid .entry)))) ⌝ }
+    requires { ⌜ IsVersion ver × (i < 8) ⌝ }
+    ensures { λ r. ⌜ (r ≡ penalty (side (ver .0)) (colours (candidate (ver .0) (levelOf ecl) i (now (grid .entry))))) × (now (grid .exit) ≡ paint (side (ver .0)) (masked i) (candidate (ver .0) (levelOf ecl) i (now (grid .entry)))) ⌝ }
 {
-    modules::apply_mask(grid, ver, mask);
-    patterns::draw_format_bits(grid, ver, ecl, mask);
+    modules::apply_mask(grid, ver, types::mask_at(i));
+    patterns::draw_format_bits(grid, ver, ecl, types::mask_at(i));
     let score = penalty::get_penalty_score(grid, patterns::size_of(ver));
-    modules::apply_mask(grid, ver, mask); // Undoes the mask due to XOR
+    modules::apply_mask(grid, ver, types::mask_at(i)); // Undoes the mask due to XOR
     score
 }
 
@@ -38,7 +38,7 @@ fn choose_mask(grid: &mut [u8], ver: Version, ecl: QrCodeEcc) -> Mask
     let mut minpenalty: u32 = 0xFFFF_FFFF;
     let mut i: u8 = 0;
     while i < 8 {
-        let penalty = score_mask(grid, ver, ecl, types::mask_at(i));
+        let penalty = score_mask(grid, ver, ecl, i);
         if penalty < minpenalty {
             msk = i;
             minpenalty = penalty;

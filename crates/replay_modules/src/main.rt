@@ -1,7 +1,5 @@
 // Compares whole grids with a fixed list of the original's answers on standard input, one case a line. How the list was made, and what
 // a line says, stands in tools/vectors/modules.rs. Level, mask and codewords are also read back, and some modules are asked for.
-mod list; // list.rt: the list that is read
-
 ghost use Prim.Native.Nat.{_<_, _≤_};
 ghost use lib.ListN.{length};
 ghost use Rattle.standard.specs.Sizes.{side};
@@ -21,7 +19,12 @@ struct Tally {
     differ: u64,
     lost: u64,
     wrong: u64,
-    more: bool,
+}
+
+// What reading a line gives: its length, or that the input is at its end.
+enum Line {
+    Read(usize),
+    End,
 }
 
 fn main() {
@@ -48,54 +51,78 @@ fn replay() -> Tally {
         differ: 0,
         lost: 0,
         wrong: 0,
-        more: true,
     };
-    let mut turns: u64 = 2000;
+    let mut turns: u64 = 100_000;
+    let mut line = [0u8; 32768];
     while 0 < turns {
-        t = line(t);
-        if t.more {
-            turns -= 1;
-        } else {
-            turns = 0;
+        let l = read_line(&mut line);
+        match l {
+            Line::Read(n) => {
+                t = one(t, line, n);
+            }
+            Line::End => {
+                return t;
+            }
         }
+        turns -= 1;
     }
     t
 }
 
-// One line. A version that is none ends the list.
-fn line(t: Tally) -> Tally {
-    let mut head = [0u8; 9];
-    let got = io::read_full(0, &mut head);
-    if got < 9 {
-        return ended(t);
+// Reads a line without its end. A line that is too long is read as several.
+fn read_line(line: &mut [u8; 32768]) -> Line {
+    let mut n: usize = 0;
+    while n < 32768 {
+        let c = next();
+        if c == 0 {
+            return Line::End;
+        }
+        if c == b'\n' {
+            return Line::Read(n);
+        }
+        line[n] = c;
+        n += 1;
     }
-    let n = Version::new(digit(head[2]) * 10 + digit(head[3]));
-    match n {
-        NewVersion::Some(ver) => masked(t, head[0], ver, level(head[5]), digit(head[7])),
-        NewVersion::None => ended(t),
+    Line::Read(n)
+}
+
+// The next character; 0 at the end of the input.
+fn next() -> u8 {
+    let mut one = [0u8; 1];
+    let got = io::read_full(0, &mut one);
+    one[0]
+}
+
+// One line, which has n characters. One that says no version or no mask differs.
+fn one(t: Tally, line: [u8; 32768], n: usize) -> Tally {
+    if n < 9 {
+        return told_of(t, line[0], false, true, true);
+    }
+    if 32768 < n {
+        return told_of(t, line[0], false, true, true);
+    }
+    let v = Version::new(digit(line[2]) * 10 + digit(line[3]));
+    match v {
+        NewVersion::Some(ver) => masked(
+            t,
+            line[0],
+            ver,
+            level(line[5]),
+            digit(line[7]),
+            &line[9..n],
+        ),
+        NewVersion::None => told_of(t, line[0], false, true, true),
     }
 }
 
-// The rest of a line, once its version is known. A mask that is none ends the list.
-fn masked(t: Tally, kind: u8, ver: Version, ecl: QrCodeEcc, m: u8) -> Tally
+// The rest of a line, once its version is known.
+fn masked(t: Tally, kind: u8, ver: Version, ecl: QrCodeEcc, m: u8, want: &[u8]) -> Tally
     requires { ⌜ IsVersion ver ⌝ }
 {
     let n = Mask::new(m);
     match n {
-        NewMask::Some(mask) => case(t, kind, ver, ecl, mask),
-        NewMask::None => ended(t),
-    }
-}
-
-// The list has ended.
-fn ended(t: Tally) -> Tally {
-    Tally {
-        full: t.full,
-        digests: t.digests,
-        differ: t.differ,
-        lost: t.lost,
-        wrong: t.wrong,
-        more: false,
+        NewMask::Some(mask) => case(t, kind, ver, ecl, mask, want),
+        NewMask::None => told_of(t, kind, false, true, true),
     }
 }
 
@@ -117,7 +144,7 @@ fn level(c: u8) -> QrCodeEcc {
 }
 
 // One case, in buffers of the size that the largest version needs.
-fn case(t: Tally, kind: u8, ver: Version, ecl: QrCodeEcc, mask: Mask) -> Tally
+fn case(t: Tally, kind: u8, ver: Version, ecl: QrCodeEcc, mask: Mask, want: &[u8]) -> Tally
     requires { ⌜ IsVersion ver × IsMask mask ⌝ }
 {
     let size = patterns::size_of(ver);
@@ -133,6 +160,7 @@ fn case(t: Tally, kind: u8, ver: Version, ecl: QrCodeEcc, mask: Mask) -> Tally
         ver,
         ecl,
         mask,
+        want,
         &mut grid[0..n],
         &mut work[0..n],
         &mut words[0..m],
@@ -147,6 +175,7 @@ fn compared(
     ver: Version,
     ecl: QrCodeEcc,
     mask: Mask,
+    want: &[u8],
     grid: &mut [u8],
     work: &mut [u8],
     words: &mut [u8],
@@ -158,7 +187,7 @@ fn compared(
     requires { ⌜ (length (now words) ≤ 4096) × (length (now back) ≤ 4096) ⌝ }
 {
     fill(words, seed(ver.value(), ecl.ordinal(), mask.value()));
-    drawn(t, kind, ver, ecl, mask, grid, work, words, back)
+    drawn(t, kind, ver, ecl, mask, want, grid, work, words, back)
 }
 
 // Draws a grid, reads it back, and compares.
@@ -168,6 +197,7 @@ fn drawn(
     ver: Version,
     ecl: QrCodeEcc,
     mask: Mask,
+    want: &[u8],
     grid: &mut [u8],
     work: &mut [u8],
     words: &[u8],
@@ -181,7 +211,7 @@ fn drawn(
     modules::draw_label(grid, ver, ecl, mask, words);
     modules::read_codewords(grid, work, ver, ecl, mask, back);
     let found = check::same(words, back);
-    shown(t, kind, ver, ecl, mask, grid, found)
+    shown(t, kind, ver, ecl, mask, want, grid, found)
 }
 
 // Compares a grid.
@@ -191,6 +221,7 @@ fn shown(
     ver: Version,
     ecl: QrCodeEcc,
     mask: Mask,
+    want: &[u8],
     grid: &[u8],
     found: bool,
 ) -> Tally
@@ -200,15 +231,22 @@ fn shown(
     let size = patterns::size_of(ver);
     let format = format_is(grid, ver, ecl, mask);
     let right = asked(grid, size);
-    if kind == b'F' {
-        return in_full(t, list::equal(grid), both(found, format), right);
-    }
-    by_digest(
+    told_of(
         t,
-        list::number_is(list::digest(grid)),
+        kind,
+        grid_is(kind, want, grid),
         both(found, format),
         right,
     )
+}
+
+// Whether characters are the modules of a grid or, where the kind is D, their digest.
+fn grid_is(kind: u8, want: &[u8], grid: &[u8]) -> bool {
+    if kind == b'F' {
+        return listing::is_modules(want, grid);
+    }
+    let digest = listing::four(listing::digest(grid));
+    listing::is_hex(want, &digest)
 }
 
 // Both of two answers.
@@ -236,37 +274,22 @@ fn asked(grid: &[u8], size: usize) -> bool {
     corner && !left && !above && !right && !below
 }
 
-// A grid that was compared in full.
-fn in_full(t: Tally, equal: bool, found: bool, right: bool) -> Tally {
+// The counts after a grid: whether it is the same, gave back what was drawn, and answered right.
+fn told_of(t: Tally, kind: u8, equal: bool, found: bool, right: bool) -> Tally {
+    let full = kind == b'F';
     Tally {
-        full: counted(t.full, false),
-        digests: t.digests,
-        differ: counted(t.differ, equal),
-        lost: counted(t.lost, found),
-        wrong: counted(t.wrong, right),
-        more: true,
+        full: counted(t.full, full),
+        digests: counted(t.digests, !full),
+        differ: counted(t.differ, !equal),
+        lost: counted(t.lost, !found),
+        wrong: counted(t.wrong, !right),
     }
 }
 
-// A grid that was compared by its digest.
-fn by_digest(t: Tally, equal: bool, found: bool, right: bool) -> Tally {
-    Tally {
-        full: t.full,
-        digests: counted(t.digests, false),
-        differ: counted(t.differ, equal),
-        lost: counted(t.lost, found),
-        wrong: counted(t.wrong, right),
-        more: true,
-    }
-}
-
-// One more, unless all was well.
-fn counted(n: u64, well: bool) -> u64 {
-    if well {
-        return n;
-    }
-    if n < 2000 {
-        return n + 1;
+// One more, if it counts.
+fn counted(n: u64, counts: bool) -> u64 {
+    if counts {
+        return std::num::wrapping_add_u64(n, 1);
     }
     n
 }

@@ -4,7 +4,6 @@ use mathlib.Core.Logic.{⊎-elim}
 use Prim.Native.Nat.{_-_, _≤_}
 use Rattle.types.specs.Numbers.{levelOf}
 use Rattle.choice.specs.Candidates.{Scored, scored-start, scored-next, scored-same, scored-end}
-use Prim.Native.Nat.{_-_, _≤_}
 use borrow.Author.Needs.{needs}
 use Rattle.choice.proofs.choose_mask.Statement.{statement}
 use Rattle.choice.proofs.choose_mask.Tie as tie
@@ -17,9 +16,6 @@ abbrev μ-loop : tie.MeasureT-loop
 
 loop-holds : tie.Need-loop-holds Inv-loop μ-loop
 loop-holds c = (search (scored-start, needs), search needs)
-
-mask-at-requires : tie.Need-mask-at-requires Inv-loop μ-loop
-mask-at-requires c κs = search needs
 
 score-mask-requires : tie.Need-score-mask-requires Inv-loop μ-loop
 score-mask-requires c κs = search needs
@@ -34,8 +30,8 @@ loop-again : tie.Need-loop-again Inv-loop μ-loop
 loop-again c =
     (⊎-elim (λ w. search (scored-next, needs)) (λ w. search (scored-same, needs)) (c .if1 .came), search needs)
 
-mask-at-requires-2 : tie.Need-mask-at-requires-2 Inv-loop μ-loop
-mask-at-requires-2 c κs = search needs
+mask-at-requires : tie.Need-mask-at-requires Inv-loop μ-loop
+mask-at-requires c κs = search needs
 
 same-length : tie.Need-same-length Inv-loop μ-loop
 same-length c = search needs
@@ -50,11 +46,10 @@ choose-mask-spec =
     Inv-loop
     μ-loop
     loop-holds
-    mask-at-requires
     score-mask-requires
     add-i
     loop-less
     loop-again
-    mask-at-requires-2
+    mask-at-requires
     same-length
     returns)

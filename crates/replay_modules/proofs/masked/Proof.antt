@@ -17,8 +17,8 @@ case-requires c κs = (search needs, search (mask-high, needs))
 enum-told : tie.Need-enum-told
 enum-told c = search needs
 
-ended-requires : tie.Need-ended-requires
-ended-requires c κs = search needs
+told-of-requires : tie.Need-told-of-requires
+told-of-requires c κs = search needs
 
 returns : tie.Need-returns
 returns c = search needs
@@ -29,4 +29,4 @@ returns-2 c = search needs
 pub masked-spec : {M : Type 1} → statement M
 masked-spec =
     tie.close
-    (tie.spec new-requires enum-known-n case-requires enum-told ended-requires returns returns-2)
+    (tie.spec new-requires enum-known-n case-requires enum-told told-of-requires returns returns-2)

@@ -11,8 +11,8 @@ zero-requires c κs = search needs
 data-codewords-requires : tie.Need-data-codewords-requires
 data-codewords-requires c κs = (search needs, search (zeros-of, needs), search needs, search needs)
 
-same-bytes-requires : tie.Need-same-bytes-requires
-same-bytes-requires c κs = search needs
+is-hex-requires : tie.Need-is-hex-requires
+is-hex-requires c κs = search needs
 
 same-length : tie.Need-same-length
 same-length c = search needs
@@ -23,4 +23,4 @@ returns c = search needs
 pub words-same-spec : {M : Type 1} → statement M
 words-same-spec =
     tie.close
-    (tie.spec zero-requires data-codewords-requires same-bytes-requires same-length returns)
+    (tie.spec zero-requires data-codewords-requires is-hex-requires same-length returns)
