@@ -23,7 +23,7 @@ fn score_mask(grid: &mut [u8], ver: Version, ecl: QrCodeEcc, mask: Mask) -> u32
 {
     modules::apply_mask(grid, ver, mask);
     patterns::draw_format_bits(grid, ver, ecl, mask);
-    let score = penalty::get_penalty_score(grid, patterns::size_of(ver));
+    let score = packed::get_penalty_score(grid, patterns::size_of(ver));
     modules::apply_mask(grid, ver, mask); // Undoes the mask due to XOR
     score
 }
