@@ -10,3 +10,6 @@ pub mod Squares
 pub mod Whole
 pub mod Packs
 pub mod Rows
+pub mod Masks
+pub mod Masked
+pub mod Stored

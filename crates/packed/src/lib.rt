@@ -9,6 +9,8 @@ ghost use lib.Count.{ones};
 ghost use lib.ListN.{length};
 ghost use Rattle.standard.specs.Numbers.{from, sum, tabulate};
 ghost use Rattle.standard.specs.Penalty.{row, column, lineCost, squares, penalty};
+ghost use Rattle.laws.specs.Grid.{paint};
+ghost use Rattle.modules.specs.Mask.{masked};
 ghost use Rattle.penalty.specs.Lines.{colours};
 ghost use Rattle.packed.specs.Digits.{low, value};
 ghost use Rattle.packed.specs.Words.{whole};
@@ -19,6 +21,12 @@ ghost use Rattle.packed.specs.Frame.{digits, frame, lineOf, Framed};
 ghost use Rattle.packed.specs.Squares.{squaresOf};
 ghost use Rattle.packed.specs.Whole.{zone};
 ghost use Rattle.packed.specs.Packs.{digitOf, digitAt};
+ghost use Rattle.packed.specs.Masks.{twelve, spread};
+ghost use Rattle.packed.specs.Stored.{lineAt, put, RowHeld, ColumnHeld, HeldRows, HeldColumns};
+
+mod masks; // masks.rt: the lines of the eight masks
+
+use masks::MASKS;
 
 // For use in get_penalty_score, when evaluating which mask is best.
 const PENALTY_N2: u32 = 3;
@@ -330,23 +338,115 @@ fn mask(k: usize) -> Line
     }
 }
 
+/*---- Lines that are kept ----*/
+
+// The line whose words stand at p and after it.
+fn load(words: &[u64], p: usize) -> Line
+    requires { ⌜ p + 2 < length (now words) ⌝ }
+    ensures { λ r. ⌜ whole r ≡ lineAt (now (words .entry)) p ⌝ }
+{
+    Line {
+        a: words[p],
+        b: words[p + 1],
+        c: words[p + 2],
+    }
+}
+
+// Writes a line's words to p and after it.
+fn store(words: &mut [u64], p: usize, line: Line)
+    requires { ⌜ p + 2 < length (now words) ⌝ }
+    ensures { λ _. ⌜ now (words .exit) ≡ put (now (words .entry)) p (line .a) (line .b) (line .c) ⌝ }
+{
+    words[p] = line.a;
+    words[p + 1] = line.b;
+    words[p + 2] = line.c;
+}
+
+// Packs every row of a grid, six words a row: three of its colours and three of its data modules.
+pub fn pack_rows(grid: &[u8], side: usize, words: &mut [u64])
+    requires { ⌜ (side ≤ 177) × (length (now grid) ≡ side * side) × (length (now words) ≡ 6 * side) ⌝ }
+    ensures { λ _. ⌜ (length (now (words .exit)) ≡ 6 * side) × ((k : ℕ) → k < side → RowHeld side (now (grid .entry)) (now (words .exit)) k) ⌝ }
+{
+    for y in 0..side {
+        store(words, 6 * y, pack(grid, y * side, 1, side, false));
+        store(words, 6 * y + 3, pack(grid, y * side, 1, side, true));
+    }
+}
+
+// Packs every column of a grid likewise.
+pub fn pack_columns(grid: &[u8], side: usize, words: &mut [u64])
+    requires { ⌜ (side ≤ 177) × (length (now grid) ≡ side * side) × (length (now words) ≡ 6 * side) ⌝ }
+    ensures { λ _. ⌜ (length (now (words .exit)) ≡ 6 * side) × ((k : ℕ) → k < side → ColumnHeld side (now (grid .entry)) (now (words .exit)) k) ⌝ }
+{
+    for x in 0..side {
+        store(words, 6 * x, pack(grid, x, side, side, false));
+        store(words, 6 * x + 3, pack(grid, x, side, side, true));
+    }
+}
+
+/*---- Masks ----*/
+
+// The first twelve modules of line k of a mask: of row k or, where the pattern is 8 more, of column k.
+fn twelve_of(pattern: usize, k: usize) -> u64
+    requires { ⌜ pattern < 16 ⌝ }
+    ensures { λ r. ⌜ (r ≡ twelve pattern k) × (r < 4096) ⌝ }
+{
+    let at = k % 12;
+    (MASKS[pattern][at / 4] >> ((12 * (at % 4)) as u32)) % 4096
+}
+
+// Line k of a mask, with four places before it.
+fn mask_line(pattern: usize, k: usize) -> Line
+    requires { ⌜ pattern < 16 ⌝ }
+    ensures { λ r. ⌜ whole r ≡ spread (twelve pattern k) ⌝ }
+{
+    let p = twelve_of(pattern, k);
+    let t = p / 16 + p % 16 * 256;
+    Line {
+        a: p * 0x0010_0100_1001_0010,
+        b: p * 0x0001_0010_0100_1001 + p % 16 * 0x1000_0000_0000_0000,
+        c: t * 0x0001_0010_0100_1001 + t % 16 * 0x1000_0000_0000_0000,
+    }
+}
+
+// A line of which the mask inverts the data modules where it is dark.
+fn masked_line(color: Line, free: Line, inverted: Line) -> Line
+    ensures { λ r. ⌜ whole r ≡ bitXor (whole color) (bitAnd (whole free) (whole inverted)) ⌝ }
+{
+    xor(color, and(free, inverted))
+}
+
+// Row y of the masked grid, framed. Rows that hold no format bits are taken from the words, the others from the grid.
+fn row_line(grid: &[u8], words: &[u64], side: usize, msk: usize, y: usize) -> Line
+    requires { ⌜ (y < side) × (side ≤ 177) × (msk < 8) × (length (now grid) ≡ side * side) × HeldRows side (now grid) (now words) ⌝ }
+    ensures { λ r. ⌜ whole r ≡ value (frame (row side (colours (paint side (masked msk) (now (grid .entry)))) y)) ⌝ }
+{
+    let inverted = mask_line(msk, y);
+    if y > 8 {
+        if y + 8 < side {
+            return masked_line(load(words, 6 * y), load(words, 6 * y + 3), inverted);
+        }
+    }
+    let color = pack(grid, y * side, 1, side, false);
+    masked_line(color, pack(grid, y * side, 1, side, true), inverted)
+}
+
+// Column x of the masked grid likewise.
+fn column_line(grid: &[u8], words: &[u64], side: usize, msk: usize, x: usize) -> Line
+    requires { ⌜ (x < side) × (side ≤ 177) × (msk < 8) × (length (now grid) ≡ side * side) × HeldColumns side (now grid) (now words) ⌝ }
+    ensures { λ r. ⌜ whole r ≡ value (frame (column side (colours (paint side (masked msk) (now (grid .entry)))) x)) ⌝ }
+{
+    let inverted = mask_line(8 + msk, x);
+    if x > 8 {
+        if x + 8 < side {
+            return masked_line(load(words, 6 * x), load(words, 6 * x + 3), inverted);
+        }
+    }
+    let color = pack(grid, x, side, side, false);
+    masked_line(color, pack(grid, x, side, side, true), inverted)
+}
+
 /*---- The whole grid ----*/
-
-// Row y, framed.
-fn row_line(grid: &[u8], side: usize, y: usize) -> Line
-    requires { ⌜ (y < side) × (side ≤ 177) × (length (now grid) ≡ side * side) ⌝ }
-    ensures { λ r. ⌜ whole r ≡ value (frame (row side (colours (now (grid .entry))) y)) ⌝ }
-{
-    pack(grid, y * side, 1, side, false)
-}
-
-// Column x, framed.
-fn column_line(grid: &[u8], side: usize, x: usize) -> Line
-    requires { ⌜ (x < side) × (side ≤ 177) × (length (now grid) ≡ side * side) ⌝ }
-    ensures { λ r. ⌜ whole r ≡ value (frame (column side (colours (now (grid .entry))) x)) ⌝ }
-{
-    pack(grid, x, side, side, false)
-}
 
 // What the rows cost, the squares between them, and their dark modules.
 struct Rows {
@@ -355,21 +455,21 @@ struct Rows {
     dark: u32,
 }
 
-// Goes through the rows once.
-fn rows_of(grid: &[u8], side: usize) -> Rows
-    requires { ⌜ (4 ≤ side) × (side ≤ 177) × (length (now grid) ≡ side * side) ⌝ }
-    ensures { λ r. ⌜ (r .cost ≡ sum (tabulate side (λ y. lineCost side (row side (colours (now (grid .entry))) y)))) × (r .same ≡ sum (tabulate (side - 1) (squares side (colours (now (grid .entry)))))) × (r .dark ≡ sum (colours (now (grid .entry)))) × (r .cost ≤ 6960 * side) × (r .same ≤ 192 * side) × (r .dark ≤ 192 * side) ⌝ }
+// Goes through the rows of the masked grid once.
+fn rows_of(grid: &[u8], words: &[u64], side: usize, msk: usize) -> Rows
+    requires { ⌜ (4 ≤ side) × (side ≤ 177) × (msk < 8) × (length (now grid) ≡ side * side) × HeldRows side (now grid) (now words) ⌝ }
+    ensures { λ r. ⌜ (r .cost ≡ sum (tabulate side (λ y. lineCost side (row side (colours (paint side (masked msk) (now (grid .entry)))) y)))) × (r .same ≡ sum (tabulate (side - 1) (squares side (colours (paint side (masked msk) (now (grid .entry))))))) × (r .dark ≡ sum (colours (paint side (masked msk) (now (grid .entry))))) × (r .cost ≤ 6960 * side) × (r .same ≤ 192 * side) × (r .dark ≤ 192 * side) ⌝ }
 {
     let full = mask(side + 8);
     let most = mask(side - 4);
     let pairs = mask(side - 1);
-    let mut last = row_line(grid, side, 0);
+    let mut last = row_line(grid, words, side, msk, 0);
     let mut cost = line_cost(last, full, most, side);
     let mut dark = count(last);
     let mut same: u32 = 0;
     let end = side - 1;
     for y in 0..end {
-        let next = row_line(grid, side, y + 1);
+        let next = row_line(grid, words, side, msk, y + 1);
         cost += line_cost(next, full, most, side);
         dark += count(next);
         same += square_count(last, next, pairs, side);
@@ -379,27 +479,29 @@ fn rows_of(grid: &[u8], side: usize) -> Rows
 }
 
 // Adjacent modules in column having same color, and finder-like patterns.
-fn columns_cost(grid: &[u8], side: usize) -> u32
-    requires { ⌜ (4 ≤ side) × (side ≤ 177) × (length (now grid) ≡ side * side) ⌝ }
-    ensures { λ r. ⌜ (r ≡ sum (tabulate side (λ x. lineCost side (column side (colours (now (grid .entry))) x)))) × (r ≤ 6960 * side) ⌝ }
+fn columns_cost(grid: &[u8], words: &[u64], side: usize, msk: usize) -> u32
+    requires { ⌜ (4 ≤ side) × (side ≤ 177) × (msk < 8) × (length (now grid) ≡ side * side) × HeldColumns side (now grid) (now words) ⌝ }
+    ensures { λ r. ⌜ (r ≡ sum (tabulate side (λ x. lineCost side (column side (colours (paint side (masked msk) (now (grid .entry)))) x)))) × (r ≤ 6960 * side) ⌝ }
 {
     let full = mask(side + 8);
     let most = mask(side - 4);
     let mut result: u32 = 0;
     for x in 0..side {
-        result += line_cost(column_line(grid, side, x), full, most, side);
+        result += line_cost(column_line(grid, words, side, msk, x), full, most, side);
     }
     result
 }
 
-// Calculates and returns the penalty score of a grid, as `penalty` does, on packed lines.
-pub fn get_penalty_score(grid: &[u8], side: usize) -> u32
-    requires { ⌜ (4 ≤ side) × (side ≤ 177) × (length (now grid) ≡ side * side) ⌝ }
-    ensures { λ r. ⌜ r ≡ penalty side (colours (now (grid .entry))) ⌝ }
+// Calculates and returns the penalty score of a grid as it is with the mask on it, which is not drawn.
+// The words hold its rows and columns, but for those that have format bits.
+pub fn get_penalty_score(grid: &[u8], rows: &[u64], columns: &[u64], side: usize, msk: usize) -> u32
+    requires { ⌜ (4 ≤ side) × (side ≤ 177) × (msk < 8) × (length (now grid) ≡ side * side) ⌝ }
+    requires { ⌜ HeldRows side (now grid) (now rows) × HeldColumns side (now grid) (now columns) ⌝ }
+    ensures { λ r. ⌜ r ≡ penalty side (colours (paint side (masked msk) (now (grid .entry)))) ⌝ }
 {
-    let rows = rows_of(grid, side);
-    let lines = rows.cost + columns_cost(grid, side);
-    let same = PENALTY_N2 * rows.same;
+    let across = rows_of(grid, rows, side, msk);
+    let lines = across.cost + columns_cost(grid, columns, side, msk);
+    let same = PENALTY_N2 * across.same;
     let total = (side * side) as u32;
-    lines + same + PENALTY_N4 * penalty::balance_of(rows.dark, total)
+    lines + same + PENALTY_N4 * penalty::balance_of(across.dark, total)
 }

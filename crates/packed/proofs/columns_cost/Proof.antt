@@ -5,6 +5,8 @@ use mathlib.Core.Path.{_≡_}
 use Rattle.standard.specs.Numbers.{sum, tabulate}
 use Rattle.standard.specs.Penalty.{column, lineCost}
 use Rattle.laws.specs.Sums.{sum-next, sum-end}
+use Rattle.laws.specs.Grid.{paint}
+use Rattle.modules.specs.Mask.{masked}
 use Rattle.penalty.specs.Lines.{colours}
 use Rattle.packed.specs.Words.{whole}
 use Rattle.packed.specs.Rows.{column-framed, column-cost}
@@ -14,11 +16,11 @@ use Rattle.packed.proofs.columns_cost.Statement.{statement}
 use Rattle.packed.proofs.columns_cost.Tie as tie
 
 abbrev Inv-loop : tie.InvT-loop
-Inv-loop grid side full most result₀ x₀ result x =
-    (x ≤ side) × (result ≡ sum (tabulate x (λ k. lineCost side (column side (colours grid) k)))) × (result ≤ 6960 * x)
+Inv-loop grid words side msk full most result₀ x₀ result x =
+    (x ≤ side) × (result ≡ sum (tabulate x (λ k. lineCost side (column side (colours (paint side (masked msk) grid)) k)))) × (result ≤ 6960 * x)
 
 abbrev μ-loop : tie.MeasureT-loop
-μ-loop grid side full most result₀ x₀ result x = side - x
+μ-loop grid words side msk full most result₀ x₀ result x = side - x
 
 add-mask : tie.Need-add-mask Inv-loop μ-loop
 add-mask c = search needs
@@ -52,10 +54,10 @@ loop-less c = search needs
 
 loop-again : tie.Need-loop-again Inv-loop μ-loop
 loop-again c =
-    let a = c .before .before .before .before .before .before .before .args in
+    let a = c .before .before .before .before .before .before .before .before .args in
     let l = c .before .before .before .loop in (
       omega arith,
-      sum-next (λ (k : ℕ). lineCost (a .side) (column (a .side) (colours (a .grid .now)) k)) _ _ _ (l .inv .1) (column-cost _ _ _ _ _ (c .before .column-line .ensures) (c .line-cost .ensures .0)),
+      sum-next (λ (k : ℕ). lineCost (a .side) (column (a .side) (colours (paint (a .side) (masked (a .msk)) (a .grid .now))) k)) _ _ _ (l .inv .1) (column-cost _ _ _ _ _ (c .before .column-line .ensures) (c .line-cost .ensures .0)),
       omega arith,
     )
 
