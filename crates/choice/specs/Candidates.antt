@@ -21,31 +21,22 @@ use Rattle.penalty.specs.Lines.{colours}
 use Rattle.penalty.specs.Bounds.{penalty-le}
 use Rattle.penalty.specs.Choice.{Best, best-start, best-next, best-same, best-end}
 
--- a work grid with mask m and its format bits on it
+-- a work grid with the format bits of mask m and that mask on it
 unfoldable pub candidate : ℕ → ℕ → ℕ → List ℕ → List ℕ
-candidate v l m g = paint (side v) (formats (side v) (formatWord l m)) (paint (side v) (masked m) g)
+candidate v l m g = paint (side v) (masked m) (paint (side v) (formats (side v) (formatWord l m)) g)
 
-module _ (v l m i j : ℕ) (g a b : List ℕ) (e : a ≡ paint (side v) (masked i) g) (f : b ≡ paint (side v) (formats (side v) (formatWord l j)) a) (p : i ≡ m) (q : j ≡ m) where
-  -- the candidate as it is drawn
-  is-candidate : b ≡ candidate v l m g
+-- the format bits are drawn, and the mask is scored as if it were
+module _ (v l m j : ℕ) (g h : List ℕ) (e : h ≡ paint (side v) (formats (side v) (formatWord l j)) g) (q : j ≡ m) where
+  pub score-is : (r s : ℕ) → r ≡ penalty s (colours (paint s (masked m) h)) → s ≡ side v → r ≡ penalty (side v) (colours (candidate v l m g))
   unfolding candidate
-  is-candidate =
-      f ∙ ap (λ (k : ℕ). paint (side v) (formats (side v) (formatWord l k)) a) q
-      ∙ ap (paint (side v) (formats (side v) (formatWord l m))) (e ∙ ap (λ (k : ℕ). paint (side v) (masked k) g) p)
+  score-is r s d w = d ∙ rw (w, e, q)
 
-  pub score-is : (r s : ℕ) → r ≡ penalty s (colours b) → s ≡ side v → r ≡ penalty (side v) (colours (candidate v l m g))
-  score-is r s d w = d ∙ ap (λ (n : ℕ). penalty n (colours b)) w ∙ ap (λ (h : List ℕ). penalty (side v) (colours h)) is-candidate
-
-  pub undone-is : (k : ℕ) (c : List ℕ) → c ≡ paint (side v) (masked k) b → k ≡ m → c ≡ paint (side v) (masked m) (candidate v l m g)
-  undone-is k c d w = d ∙ ap (λ (n : ℕ). paint (side v) (masked n) b) w ∙ ap (paint (side v) (masked m)) is-candidate
+  pub formatted-is : h ≡ paint (side v) (formats (side v) (formatWord l m)) g
+  formatted-is = e ∙ rw q
 
 -- its length, by the side as a number
-pub candidate-size : (v m word s : ℕ) (g a b : List ℕ) → b ≡ paint (side v) (formats (side v) word) a → a ≡ paint (side v) (masked m) g → Square g (side v) → s ≡ side v
-    → length b ≡ s * s
-candidate-size v m word s g a b f e sq q =
-    ap length f ∙ length-paint (side v) (formats (side v) word) a
-    ∙ ap length e ∙ length-paint (side v) (masked m) g
-    ∙ rw q (sq .size)
+pub formatted-size : (v word s : ℕ) (g h : List ℕ) → h ≡ paint (side v) (formats (side v) word) g → Square g (side v) → s ≡ side v → length h ≡ s * s
+formatted-size v word s g h e sq q = ap length e ∙ length-paint (side v) (formats (side v) word) g ∙ rw q (sq .size)
 
 -- g is the work grid of codewords ws, with some format bits
 pub record Kept (v : ℕ) (ws g : List ℕ) : Type 0 where
@@ -56,21 +47,20 @@ module _ (v l m : ℕ) (ws g : List ℕ) (high : v ≤ 40) (k : Kept v ws g) whe
   masked-grid : candidate v l m g ≡ work v (formatWord l m) (maskContent v m (content v ws))
   unfolding candidate
   masked-grid =
-      ap (λ (h : List ℕ). paint (side v) (formats (side v) (formatWord l m)) (paint (side v) (masked m) h)) (k .drawn)
-      ∙ ap (paint (side v) (formats (side v) (formatWord l m))) (mask-work v (k .word) m (content v ws) (content-small v ws))
-      ∙ reformat v (k .word) (formatWord l m) (maskContent v m (content v ws))
+      ap (λ (h : List ℕ). paint (side v) (masked m) (paint (side v) (formats (side v) (formatWord l m)) h)) (k .drawn)
+      ∙ ap (paint (side v) (masked m)) (reformat v (k .word) (formatWord l m) (content v ws))
+      ∙ mask-work v (formatWord l m) m (content v ws) (content-small v ws)
 
   -- a candidate's colours are the grid of the definition
   pub candidate-grid : colours (candidate v l m g) ≡ grid v l m (content v ws)
   candidate-grid = ap colours masked-grid ∙ finish-work v l m (content v ws)
 
-  -- the mask applied again leaves the work grid, with other format bits
-  pub candidate-undone : Kept v ws (paint (side v) (masked m) (candidate v l m g))
+  -- it leaves the work grid, with other format bits
+  pub candidate-undone : Kept v ws (paint (side v) (formats (side v) (formatWord l m)) g)
   candidate-undone =
       record {
         word = formatWord l m;
-        drawn = ap (paint (side v) (masked m)) (masked-grid ∙ sym (mask-work v (formatWord l m) m (content v ws) (content-small v ws)))
-            ∙ masked-twice (side v) m (work v (formatWord l m) (content v ws)) (record { size = work-length v (formatWord l m) (content v ws); small = omega arith });
+        drawn = ap (paint (side v) (formats (side v) (formatWord l m))) (k .drawn) ∙ reformat v (k .word) (formatWord l m) (content v ws);
       }
 
 -- what the choice over a work grid says: which mask, and that the grid is a work grid again
@@ -91,15 +81,9 @@ module _ (v l : ℕ) (g : List ℕ) where
 
   -- candidate n is scored p; it is better, or it is not
   module _ (h i : List ℕ) (n k m p n′ : ℕ) (st : Scored v l g h n k m) (e : p ≡ penalty (side v) (colours (candidate v l n′ h)))
-      (f : i ≡ paint (side v) (masked n′) (candidate v l n′ h)) (q : n′ ≡ n) (high : v ≤ 40) where
+      (f : i ≡ paint (side v) (formats (side v) (formatWord l n′)) h) (q : n′ ≡ n) (high : v ≤ 40) where
     same-size : length i ≡ length g
-    unfolding candidate
-    same-size =
-        ap length f
-        ∙ length-paint (side v) (masked n′) (candidate v l n′ h)
-        ∙ length-paint (side v) (formats (side v) (formatWord l n′)) (paint (side v) (masked n′) h)
-        ∙ length-paint (side v) (masked n′) h
-        ∙ st .size
+    same-size = ap length f ∙ length-paint (side v) (formats (side v) (formatWord l n′)) h ∙ st .size
 
     own : (ws : List ℕ) → Kept v ws h → p ≡ penalty (side v) (grid v l n (content v ws))
     own ws kept =

@@ -54,7 +54,7 @@ fn columns_penalty(grid: &[u8], side: usize) -> u32
 }
 
 // What the line costs whose modules stand at start, start + step and so on.
-fn line_penalty(grid: &[u8], start: usize, step: usize, side: usize) -> u32
+pub fn line_penalty(grid: &[u8], start: usize, step: usize, side: usize) -> u32
     requires { ⌜ (0 < side) × (side ≤ 177) × ((i : ℕ) → i < side → start + i * step < length (now grid)) ⌝ }
     ensures { λ r. ⌜ (r ≡ lineCost side (tabulate side (along (now (grid .entry)) start step))) × (r ≤ 6960) ⌝ }
 {
@@ -171,7 +171,7 @@ fn color_of(byte: u8) -> u32
 }
 
 // Balance of dark and light modules: the smallest integer k >= 0 such that (45-5k)% <= dark/total <= (55+5k)%.
-fn balance_of(dark: u32, total: u32) -> u32
+pub fn balance_of(dark: u32, total: u32) -> u32
     requires { ⌜ (dark ≤ 31329) × (total ≤ 31329) ⌝ }
     ensures { λ r. ⌜ (r ≡ balance dark total) × (r ≤ 10) ⌝ }
 {

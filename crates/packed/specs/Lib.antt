@@ -1,0 +1,15 @@
+pub mod Digits
+pub mod Runs
+pub mod Cost
+pub mod Words
+pub mod Marks
+pub mod Windows
+pub mod Cores
+pub mod Frame
+pub mod Squares
+pub mod Whole
+pub mod Packs
+pub mod Rows
+pub mod Masks
+pub mod Masked
+pub mod Stored

@@ -1,0 +1,21 @@
+// The lines of the eight masks, which repeat after twelve lines and after twelve modules.
+
+// Entry m has the rows of mask m, entry 8 + m its columns: four lines of twelve modules in a number, module 0 of line 0 lowest.
+pub const MASKS: [[u64; 3]; 16] = [
+    [0xAAA_555_AAA_555, 0xAAA_555_AAA_555, 0xAAA_555_AAA_555],
+    [0x000_FFF_000_FFF, 0x000_FFF_000_FFF, 0x000_FFF_000_FFF],
+    [0x249_249_249_249, 0x249_249_249_249, 0x249_249_249_249],
+    [0x249_492_924_249, 0x924_249_492_924, 0x492_924_249_492],
+    [0xE38_E38_1C7_1C7, 0xE38_E38_1C7_1C7, 0xE38_E38_1C7_1C7],
+    [0x555_249_041_FFF, 0x041_FFF_041_249, 0x041_249_555_249],
+    [0x555_6DB_1C7_FFF, 0x1C7_FFF_C71_B6D, 0xC71_B6D_555_6DB],
+    [0xAAA_C71_E38_555, 0xE38_555_38E_1C7, 0x38E_1C7_AAA_C71],
+    [0xAAA_555_AAA_555, 0xAAA_555_AAA_555, 0xAAA_555_AAA_555],
+    [0x555_555_555_555, 0x555_555_555_555, 0x555_555_555_555],
+    [0xFFF_000_000_FFF, 0x000_FFF_000_000, 0x000_000_FFF_000],
+    [0x249_492_924_249, 0x924_249_492_924, 0x492_924_249_492],
+    [0xCCC_333_333_333, 0x333_333_CCC_CCC, 0xCCC_CCC_CCC_333],
+    [0x555_249_041_FFF, 0x041_FFF_041_249, 0x041_249_555_249],
+    [0x555_6DB_1C7_FFF, 0x1C7_FFF_C71_B6D, 0xC71_B6D_555_6DB],
+    [0xAAA_C71_E38_555, 0xE38_555_38E_1C7, 0x38E_1C7_AAA_C71],
+];
