@@ -1,19 +1,17 @@
 -- Laws for the loops and the returns that make the picture.
 -- Assumes nothing.
-use Prim.Native.Nat.{ℕ, zero, suc, _+_, _-_, _*_, _^_, _≤_, _<_}
+use Prim.Native.Nat.{ℕ, zero, suc, _+_, _-_, _*_, _/_, _^_, _≤_, _<_}
 use mathlib.Core.Bool.{Bool, cond}
-use mathlib.Core.List.{List, [], _∷_, _++_, append-assoc, append-nil}
+use mathlib.Core.List.{List, [], _∷_, _++_}
 use mathlib.Core.Path.{_≡_, refl, sym, ap, ap₂, _∙_}
-use native.Mathlib.Numerals.{add-one}
 use native.Mathlib.Nat.{le-of-suc-le-suc, mul-le-mul}
 use native.Mathlib.Omega.{arith}
-use lib.ListN.{length, getD, set, take, length-set}
-use lib.Seq.{take-suc, take-set-le, getD-set-same}
+use lib.ListN.{length, getD, set}
 use borrow.Author.Tests.{lt-ltb, le-ltb, le-leb, lt-leb, eq-eqb, ne-eqb}
 use Rattle.standard.specs.Numbers.{tabulate, join}
-use Rattle.laws.specs.Joins.{join-append}
-use Rattle.laws.specs.Lists.{from-append}
-use Rattle.label.specs.Picture.{shown, half, glyph, characters}
+use Rattle.label.specs.Text.{bytes, Said}
+use Rattle.label.specs.TextLaws.{said-as, said-none, said-one, said-then, said-set, said-next}
+use Rattle.label.specs.Picture.{shown, half, glyph, characters, line, lines, picture}
 
 -- ---- a module of the picture
 
@@ -65,54 +63,51 @@ module _ (u l : ℕ) where
   pub half-both : (u ≡ 0 → ⊥) → (l ≡ 0 → ⊥) → 136 ≡ half u l
   half-both a b = rw (ne-eqb u 0 a, ne-eqb l 0 b)
 
--- a store, one byte after the ones that are there
-stored : (l : List ℕ) (i v : ℕ) → i < length l → take (i + 1) (set l i v) ≡ take i l ++ (v ∷ [])
-stored l i v h =
-    ap (λ (k : ℕ). take k (set l i v)) (add-one i)
-    ∙ take-suc (set l i v) i 0 (omega (arith, length-set l i v))
-    ∙ ap₂ (λ (t : List ℕ) (b : ℕ). t ++ (b ∷ [])) (take-set-le i l i v (omega arith)) (getD-set-same l i v 0 h)
+module _ (o : List ℕ) (at u w h : ℕ) (e : h ≡ half u w) where
+  pub put-space : h ≡ 32 → at + 3 ≤ length o → Said o at (glyph u w) (set o at 32) (at + 1)
+  put-space q r =
+      said-as (said-one o at 32 (omega arith))
+      (ap (λ (b : Bool). cond b (32 ∷ []) (226 ∷ 150 ∷ half u w ∷ [])) (sym (eq-eqb (half u w) 32 (sym e ∙ q)))) refl
 
-pub put-space : (l : List ℕ) (at u w h : ℕ) → h ≡ half u w → h ≡ 32 → at + 3 ≤ length l → take (at + 1) (set l at 32) ≡ take at l ++ glyph u w
-put-space l at u w h e q r =
-    stored l at 32 (omega arith)
-    ∙ ap (λ (b : Bool). take at l ++ cond b (32 ∷ []) (226 ∷ 150 ∷ half u w ∷ [])) (sym (eq-eqb (half u w) 32 (sym e ∙ q)))
-
-pub put-block : (l : List ℕ) (at u w h : ℕ) → h ≡ half u w → (h ≡ 32 → ⊥) → at + 3 ≤ length l
-    → take (at + 3) (set (set (set l at 226) (at + 1) 150) (at + 2) h) ≡ take at l ++ glyph u w
-put-block l at u w h e q r =
-    let a = set l at 226 in
-    let b = set a (at + 1) 150 in
-    let la : length a ≡ length l = length-set l at 226 in
-    let lb : length b ≡ length a = length-set a (at + 1) 150 in
-    let three : at + 3 ≡ at + 2 + 1 = omega arith in
-    let two : at + 2 ≡ at + 1 + 1 = omega arith in
-    ap (λ (k : ℕ). take k (set b (at + 2) h)) three
-    ∙ stored b (at + 2) h (omega arith)
-    ∙ ap (λ (k : ℕ). take k b ++ (h ∷ [])) two
-    ∙ ap (λ (t : List ℕ). t ++ (h ∷ [])) (stored a (at + 1) 150 (omega arith) ∙ ap (λ (t : List ℕ). t ++ (150 ∷ [])) (stored l at 226 (omega arith)))
-    ∙ ap (λ (t : List ℕ). t ++ (h ∷ [])) (append-assoc (take at l) (226 ∷ []) (150 ∷ []))
-    ∙ append-assoc (take at l) (226 ∷ 150 ∷ []) (h ∷ [])
-    ∙ ap (λ (k : ℕ). take at l ++ (226 ∷ 150 ∷ k ∷ [])) e
-    ∙ ap (λ (b : Bool). take at l ++ cond b (32 ∷ []) (226 ∷ 150 ∷ half u w ∷ [])) (sym (ne-eqb (half u w) 32 (λ p. q (e ∙ p))))
+  pub put-block : (h ≡ 32 → ⊥) → at + 3 ≤ length o → Said o at (glyph u w) (set (set (set o at 226) (at + 1) 150) (at + 2) h) (at + 3)
+  put-block q r =
+      let two : at + 1 + 1 ≡ at + 2 = omega arith in
+      let three : at + 2 + 1 ≡ at + 3 = omega arith in
+      let s : Said o at (226 ∷ 150 ∷ []) (set (set o at 226) (at + 1) 150) (at + 2)
+      = said-as (said-set 150 (said-one o at 226 (omega arith)) (omega arith)) refl two in
+      let g : 226 ∷ 150 ∷ h ∷ [] ≡ glyph u w
+      = ap (λ (k : ℕ). 226 ∷ 150 ∷ k ∷ []) e
+      ∙ ap (λ (b : Bool). cond b (32 ∷ []) (226 ∷ 150 ∷ half u w ∷ [])) (sym (ne-eqb (half u w) 32 (λ p. q (e ∙ p)))) in
+      said-as (said-set h s (omega arith)) g three
 
 -- ---- a line of characters
 
 module _ (side : ℕ) (g : List ℕ) (y : ℕ) where
-  pub line-start : (out : List ℕ) → take 0 out ≡ characters side g y 0
-  line-start [] = refl
-  line-start (b ∷ bs) = refl
+  pub line-start : (o : List ℕ) (at : ℕ) → Said o at (characters side g y 0) o at
+  line-start o at = said-none o at
 
-  pub line-next : (out later : List ℕ) (at next x u l : ℕ) → take at out ≡ characters side g y x → take next later ≡ take at out ++ glyph u l
-      → u ≡ shown side g x y → l ≡ shown side g x (y + 1) → take next later ≡ characters side g y (x + 1)
-  line-next out later at next x u l inv put a b =
-      let f : ℕ → List ℕ = λ x. glyph (shown side g x y) (shown side g x (y + 1)) in
-      put ∙ ap₂ (λ (s t : List ℕ). s ++ t) inv (ap₂ glyph a b)
-      ∙ ap (λ (t : List ℕ). join (tabulate x f) ++ t) (sym (append-nil (f x)))
-      ∙ sym (join-append (tabulate x f) (f x ∷ []))
-      ∙ ap join (sym (from-append 0 x 1 f ∙ ap (λ (k : ℕ). tabulate x f ++ (f k ∷ [])) (is x)))
-    where
-      is : (x : ℕ) → 0 + x ≡ x
-      is x = omega arith
+  pub line-next : (o h i : List ℕ) (at q r x u l : ℕ) → Said h q (glyph u l) i r → Said o at (characters side g y x) h q
+      → u ≡ shown side g x y → l ≡ shown side g x (y + 1) → r ≤ length o → Said o at (characters side g y (x + 1)) i r
+  line-next o h i at q r x u l t s a b f =
+      said-next (λ (x : ℕ). glyph (shown side g x y) (shown side g x (y + 1))) x s (said-as t (ap₂ glyph a b) refl) f
 
-  pub line-end : (out : List ℕ) (at x : ℕ) → take at out ≡ characters side g y x → x ≤ side + 8 → side + 8 ≤ x → take at out ≡ characters side g y (side + 8)
-  line-end out at x inv a b = let e : x ≡ side + 8 = omega arith in inv ∙ ap (characters side g y) e
+  pub line-end : (o h : List ℕ) (at q x : ℕ) → Said o at (characters side g y x) h q → x ≤ side + 8 → side + 8 ≤ x
+      → Said o at (characters side g y (side + 8)) h q
+  line-end o h at q x s a b = let e : x ≡ side + 8 = omega arith in said-as s (ap (characters side g y) e) refl
+
+  pub line-said : (o a b c : List ℕ) (at p q r : ℕ) → Said b q (bytes "\u{1b}[0m\n") c r → Said a p (characters side g y (side + 8)) b q
+      → Said o at (bytes "\u{1b}[30;107m") a p → r ≤ length o → Said o at (line side g y) c r
+  line-said o a b c at p q r u t s h = said-then s (said-then t u (omega arith)) h
+
+-- ---- the lines of a picture
+
+module _ (side : ℕ) (g : List ℕ) where
+  pub lines-start : (o : List ℕ) → Said o 0 (lines side g 0) o 0
+  lines-start o = said-none o 0
+
+  pub lines-next : (o h i : List ℕ) (q r n : ℕ) → Said h q (line side g (2 * n)) i r → Said o 0 (lines side g n) h q → r ≤ length o
+      → Said o 0 (lines side g (n + 1)) i r
+  lines-next o h i q r n t s l = said-next (λ (j : ℕ). line side g (2 * j)) n s t l
+
+  pub lines-end : (o h : List ℕ) (q n m : ℕ) → Said o 0 (lines side g n) h q → m ≡ (side + 9) / 2 → n ≤ m → m ≤ n → Said o 0 (picture side g) h q
+  lines-end o h q n m s e a b = let f : n ≡ (side + 9) / 2 = omega arith in said-as s (ap (lines side g) f) refl

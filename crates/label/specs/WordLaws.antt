@@ -7,11 +7,11 @@ use mathlib.Core.Path.{_≡_, refl, sym, ap, ap₂, _∙_}
 use native.Mathlib.Numerals.{add-one}
 use native.Mathlib.Omega.{arith}
 use lib.Dec.{ltb, eqb}
-use lib.ListN.{length, getD, take, drop, length-drop, drop-of-length-le}
+use lib.ListN.{length, getD, take, drop, length-take, length-drop, drop-of-length-le}
 use lib.Seq.{drop-cons, take-all}
 use borrow.Author.Tests.{lt-ltb, le-ltb, eq-eqb, ne-eqb}
 use Rattle.standard.specs.Numbers.{one, place, same}
-use Rattle.label.specs.Words.{nextNumber, numberFrom, numberOf, firstOf, lastOf, levelNamed, maskNamed, switchNamed, lineLength}
+use Rattle.label.specs.Words.{beginsWith, nextNumber, numberFrom, numberOf, firstOf, lastOf, levelNamed, maskNamed, switchNamed, lineLength}
 
 -- ---- two words
 
@@ -51,6 +51,12 @@ same-length (x ∷ xs) (y ∷ ys) h =
     neither : (t : Bool) → false ≡ t && false
     neither true = refl
     neither false = refl
+
+pub begins-short : (t w : List ℕ) → length t < length w → false ≡ beginsWith t w
+begins-short t w h = same-length (take (length w) t) w (λ e. omega (arith, e, length-take (length w) t))
+
+pub begins-same : (t w : List ℕ) (r : Bool) → r ≡ same (take (length w - 0) (drop 0 t)) w → r ≡ beginsWith t w
+begins-same t w r e = let n : length w - 0 ≡ length w = omega arith in e ∙ ap (λ (k : ℕ). same (take k t) w) n
 
 -- ---- where a byte stands
 

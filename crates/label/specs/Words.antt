@@ -1,11 +1,14 @@
 -- What the words of the command line mean, and what is taken off a line.
 -- Assumes nothing.
 use Prim.Native.Nat.{ℕ, _+_, _-_, _*_}
-use mathlib.Core.Bool.{cond}
+use mathlib.Core.Bool.{Bool, cond}
 use mathlib.Core.List.{List, [], _∷_}
 use lib.Dec.{ltb, eqb}
 use lib.ListN.{length, getD, take, drop}
 use Rattle.standard.specs.Numbers.{one, place, same}
+
+abbrev pub beginsWith : List ℕ → List ℕ → Bool
+beginsWith t w = same (take (length w) t) w
 
 -- ---- numbers; 256 stands for no number
 

@@ -1,6 +1,5 @@
 // The options of the command line.
 ghost use mathlib.Core.Path.{_≡_};
-ghost use Prim.Native.Nat.{_+_, _^_, _<_};
 ghost use Rattle.label.specs.Choices.{defaults as defaultOptions, wrong as wrongOptions, helped as helpedOptions, withLevel, withVersions, withMask, withBoost, chosen as chosenOptions};
 use super::words::first_of;
 use super::words::last_of;
@@ -21,7 +20,7 @@ pub struct Options {
 }
 
 // What is asked for where nothing is said.
-fn defaults() -> Options
+pub fn defaults() -> Options
     ensures { λ r. ⌜ r ≡ defaultOptions ⌝ }
 {
     Options {
@@ -36,7 +35,7 @@ fn defaults() -> Options
 }
 
 // The options, and that something was no option.
-fn wrong(o: Options) -> Options
+pub fn wrong(o: Options) -> Options
     ensures { λ r. ⌜ r ≡ wrongOptions o ⌝ }
 {
     Options {
@@ -51,7 +50,7 @@ fn wrong(o: Options) -> Options
 }
 
 // The options, and that the help was asked for.
-fn helped(o: Options) -> Options
+pub fn helped(o: Options) -> Options
     ensures { λ r. ⌜ r ≡ helpedOptions o ⌝ }
 {
     Options {
@@ -141,7 +140,7 @@ fn with_boost(o: Options, n: u8) -> Options
 }
 
 // The options after one more of them and its value.
-fn chosen(o: Options, name: &[u8], value: &[u8]) -> Options
+pub fn chosen(o: Options, name: &[u8], value: &[u8]) -> Options
     ensures { λ r. ⌜ r ≡ chosenOptions o (now (name .entry)) (now (value .entry)) ⌝ }
 {
     if same(name, b"--level") {
@@ -157,70 +156,4 @@ fn chosen(o: Options, name: &[u8], value: &[u8]) -> Options
         return with_boost(o, switch_named(value));
     }
     wrong(o)
-}
-
-// Says which words are no option.
-fn told(what: &[u8], name: &[u8], value: &[u8]) {
-    io::write_all(1, what);
-    io::write_all(1, name);
-    io::write_all(1, b" ");
-    io::write_all(1, value);
-    io::write_all(1, b"\n\n");
-}
-
-// The options after the option of a name, whose value is word i.
-fn read_one(o: Options, i: usize, name: &[u8]) -> Options {
-    let mut value = [0u8; 16];
-    let n = os::arg(i, &mut value);
-    let error = os::errno();
-    if error == libc::EINVAL {
-        told(b"label: not understood, or without its value: ", name, b"");
-        return wrong(o);
-    }
-    if error != 0 {
-        told(b"label: not understood: the value of ", name, b"");
-        return wrong(o);
-    }
-    let next = chosen(o, name, &value[..n]);
-    if next.wrong {
-        told(b"label: not understood: ", name, &value[..n]);
-    }
-    next
-}
-
-// The options after the words i and i + 1.
-fn read_pair(o: Options, i: usize) -> Options
-    requires { ⌜ i + 1 < 2 ^ 64 ⌝ }
-{
-    let mut name = [0u8; 16];
-    let n = os::arg(i, &mut name);
-    if os::errno() != 0 {
-        io::write_all(
-            1,
-            b"label: not understood: a word of more than 16 letters\n\n",
-        );
-        return wrong(o);
-    }
-    if same(&name[..n], b"--help") {
-        return helped(o);
-    }
-    read_one(o, i + 1, &name[..n])
-}
-
-// Reads the options, up to the first that is none.
-pub fn read() -> Options {
-    let pairs = os::arg_count() / 2;
-    let mut o = defaults();
-    let mut k: usize = 0;
-    while k < pairs {
-        if o.help {
-            return o;
-        }
-        if o.wrong {
-            return o;
-        }
-        o = read_pair(o, 2 * k + 1);
-        k += 1;
-    }
-    o
 }

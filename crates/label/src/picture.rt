@@ -1,9 +1,10 @@
 // The picture of a label in a terminal. Each line sets both colours, so that it reads on a dark screen and on a light one.
 ghost use mathlib.Core.Path.{_≡_};
-ghost use mathlib.Core.List.{_++_};
-ghost use Prim.Native.Nat.{_+_, _*_, _≤_};
-ghost use lib.ListN.{length, take};
-ghost use Rattle.label.specs.Picture.{shown as shownAt, half as halfOf, glyph, characters as charactersOf};
+ghost use Prim.Native.Nat.{_+_, _≤_};
+ghost use lib.ListN.{length};
+ghost use Rattle.label.specs.Text.{Said};
+ghost use Rattle.label.specs.Picture.{shown as shownAt, half as halfOf, glyph, characters as charactersOf, line as lineOf, picture as pictureOf};
+use super::text::say;
 
 // The module at a place of the picture, whose border of four modules is light.
 fn shown(side: usize, grid: &[u8], x: usize, y: usize) -> u8
@@ -45,10 +46,10 @@ fn half(upper: u8, lower: u8) -> u8
     136
 }
 
-// Puts the character of two modules into a line, and returns the place after it.
+// Puts the character of two modules at a place, and returns the place after it.
 fn put(out: &mut [u8], at: usize, upper: u8, lower: u8) -> usize
     requires { ⌜ at + 3 ≤ length (now out) ⌝ }
-    ensures { λ r. ⌜ (take r (now (out .exit)) ≡ take at (now (out .entry)) ++ glyph upper lower) × (length (now (out .exit)) ≡ length (now (out .entry))) × (r ≤ at + 3) ⌝ }
+    ensures { λ r. ⌜ Said (now (out .entry)) at (glyph upper lower) (now (out .exit)) r × (r ≤ at + 3) ⌝ }
 {
     let last = half(upper, lower);
     if last == 32 {
@@ -61,12 +62,12 @@ fn put(out: &mut [u8], at: usize, upper: u8, lower: u8) -> usize
     at + 3
 }
 
-// Puts the characters that show rows y and y + 1 into a line, and returns their length.
-fn characters(side: usize, grid: &[u8], y: usize, out: &mut [u8]) -> usize
-    requires { ⌜ (side ≤ 177) × (y ≤ 185) × (length (now out) ≡ 555) ⌝ }
-    ensures { λ r. ⌜ (take r (now (out .exit)) ≡ charactersOf side (now (grid .entry)) y (side + 8)) × (length (now (out .exit)) ≡ 555) × (r ≤ 555) ⌝ }
+// Puts the characters that show rows y and y + 1.
+fn characters(side: usize, grid: &[u8], y: usize, out: &mut [u8], start: usize) -> usize
+    requires { ⌜ (side ≤ 177) × (y ≤ 185) × (start + 555 ≤ length (now out)) ⌝ }
+    ensures { λ r. ⌜ Said (now (out .entry)) start (charactersOf side (now (grid .entry)) y (side + 8)) (now (out .exit)) r × (r ≤ start + 555) ⌝ }
 {
-    let mut at: usize = 0;
+    let mut at: usize = start;
     let mut x: usize = 0;
     while x < side + 8 {
         let upper = shown(side, grid, x, y);
@@ -77,26 +78,27 @@ fn characters(side: usize, grid: &[u8], y: usize, out: &mut [u8]) -> usize
     at
 }
 
-// Writes the line of text that shows rows y and y + 1: black on white, and the terminal's own colours after it.
-fn line(side: usize, grid: &[u8], y: usize)
-    requires { ⌜ (side ≤ 177) × (y ≤ 185) ⌝ }
+// Puts the line of text that shows rows y and y + 1.
+fn line(side: usize, grid: &[u8], y: usize, out: &mut [u8], at: usize) -> usize
+    requires { ⌜ (side ≤ 177) × (y ≤ 185) × (at + 569 ≤ length (now out)) ⌝ }
+    ensures { λ r. ⌜ Said (now (out .entry)) at (lineOf side (now (grid .entry)) y) (now (out .exit)) r × (r ≤ at + 569) ⌝ }
 {
-    let mut out = [0u8; 555];
-    let n = characters(side, grid, y, &mut out);
-    if n <= 555 {
-        io::write_all(1, b"\x1b[30;107m");
-        io::write_all(1, &out[0..n]);
-        io::write_all(1, b"\x1b[0m\n");
-    }
+    let black_on_white = say(out, at, b"\x1b[30;107m");
+    let modules = characters(side, grid, y, out, black_on_white);
+    say(out, modules, b"\x1b[0m\n")
 }
 
-// Writes the whole picture.
-pub fn draw(side: usize, grid: &[u8])
-    requires { ⌜ side ≤ 177 ⌝ }
+// Puts the whole picture from the start of lent memory on, and returns its length.
+pub fn draw(side: usize, grid: &[u8], out: &mut [u8]) -> usize
+    requires { ⌜ (side ≤ 177) × (52917 ≤ length (now out)) ⌝ }
+    ensures { λ r. ⌜ Said (now (out .entry)) 0 (pictureOf side (now (grid .entry))) (now (out .exit)) r × (r ≤ 52917) ⌝ }
 {
-    let mut y: usize = 0;
-    while y < side + 8 {
-        line(side, grid, y);
-        y += 2;
+    let lines = (side + 9) / 2;
+    let mut at: usize = 0;
+    let mut j: usize = 0;
+    while j < lines {
+        at = line(side, grid, 2 * j, out, at);
+        j += 1;
     }
+    at
 }

@@ -3,7 +3,7 @@ ghost use mathlib.Core.Path.{_≡_};
 ghost use Prim.Native.Nat.{_≤_};
 ghost use lib.ListN.{length};
 ghost use Rattle.standard.specs.Numbers.{place as placeOf, same as sameList};
-ghost use Rattle.label.specs.Words.{nextNumber, numberOf, firstOf, lastOf, levelNamed, maskNamed, switchNamed, lineLength};
+ghost use Rattle.label.specs.Words.{beginsWith, nextNumber, numberOf, firstOf, lastOf, levelNamed, maskNamed, switchNamed, lineLength};
 
 // Whether two words are the same.
 pub fn same(a: &[u8], b: &[u8]) -> bool
@@ -23,7 +23,7 @@ pub fn same(a: &[u8], b: &[u8]) -> bool
 }
 
 // Where a byte first stands in a word; the word's length where it stands nowhere.
-fn place(c: u8, word: &[u8]) -> usize
+pub fn place(c: u8, word: &[u8]) -> usize
     ensures { λ r. ⌜ (r ≡ placeOf c (now (word .entry))) × (r ≤ length (now (word .entry))) ⌝ }
 {
     let mut i: usize = 0;
@@ -68,6 +68,17 @@ fn number(word: &[u8]) -> usize
         i += 1;
     }
     n
+}
+
+// Whether a text begins with a word.
+pub fn begins(text: &[u8], word: &[u8]) -> bool
+    ensures { λ r. ⌜ r ≡ beginsWith (now (text .entry)) (now (word .entry)) ⌝ }
+{
+    let n = word.len();
+    if text.len() < n {
+        return false;
+    }
+    same(&text[0..n], word)
 }
 
 // The number before the dash of a range.

@@ -1,19 +1,19 @@
 -- `label::picture::characters` meets its contract.
 -- Assumes nothing.
 use Prim.Native.Nat.{_+_, _-_, _*_, _≤_}
-use mathlib.Core.Path.{_≡_}
+use native.Mathlib.Omega.{arith}
 use borrow.Author.Needs.{needs}
-use lib.ListN.{length, take}
+use Rattle.label.specs.Text.{Said}
 use Rattle.label.specs.Picture.{characters}
 use Rattle.label.specs.PictureLaws.{line-start, line-next, line-end}
 use Rattle.label.proofs.picture.characters.Statement.{statement}
 use Rattle.label.proofs.picture.characters.Tie as tie
 
 abbrev Inv-loop : tie.InvT-loop
-Inv-loop side grid y out₀ at₀ x₀ out at x = (take at out ≡ characters side grid y x) × (x ≤ side + 8) × (at ≤ 3 * x) × (length out ≡ 555)
+Inv-loop side grid y out₀ start at₀ x₀ out at x = Said out₀ start (characters side grid y x) out at × (x ≤ side + 8) × (at ≤ start + 3 * x)
 
 abbrev μ-loop : tie.MeasureT-loop
-μ-loop side grid y out₀ at₀ x₀ out at x = side + 8 - x
+μ-loop side grid y out₀ start at₀ x₀ out at x = side + 8 - x
 
 loop-holds : tie.Need-loop-holds Inv-loop μ-loop
 loop-holds c = search (line-start, needs)
@@ -40,7 +40,12 @@ loop-less : tie.Need-loop-less Inv-loop μ-loop
 loop-less c = search needs
 
 loop-again : tie.Need-loop-again Inv-loop μ-loop
-loop-again c = search (line-next, needs)
+loop-again c =
+    let d = c .before .before in
+    let b = d .before .before in
+    let l = b .before .before .before in
+    let a = l .before .before .before .args in
+    (line-next (a .side) (a .grid .now) (a .y) _ _ _ _ _ _ (l .loop .x) _ _ (d .put .ensures .0) (l .loop .inv .0) (b .before .shown .ensures) (b .shown2 .ensures) (omega arith), search needs, search needs)
 
 same-length : tie.Need-same-length Inv-loop μ-loop
 same-length c = search needs

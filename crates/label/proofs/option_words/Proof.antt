@@ -1,9 +1,9 @@
--- `label::options::read` meets its contract.
+-- `label::option_words` meets its contract.
 -- Assumes nothing.
 use Prim.Native.Nat.{_-_, _≤_}
 use borrow.Author.Needs.{needs}
-use Rattle.label.proofs.options.read.Statement.{statement}
-use Rattle.label.proofs.options.read.Tie as tie
+use Rattle.label.proofs.option_words.Statement.{statement}
+use Rattle.label.proofs.option_words.Tie as tie
 
 abbrev Inv-loop : tie.InvT-loop
 Inv-loop pairs o₀ k₀ o k = k ≤ pairs
@@ -26,14 +26,14 @@ returns c = search needs
 returns-2 : tie.Need-returns-2 Inv-loop μ-loop
 returns-2 c = search needs
 
-mul-read-pair : tie.Need-mul-read-pair Inv-loop μ-loop
-mul-read-pair c = search needs
+mul-option-pair : tie.Need-mul-option-pair Inv-loop μ-loop
+mul-option-pair c = search needs
 
-add-read-pair : tie.Need-add-read-pair Inv-loop μ-loop
-add-read-pair c = search needs
+add-option-pair : tie.Need-add-option-pair Inv-loop μ-loop
+add-option-pair c = search needs
 
-read-pair-requires : tie.Need-read-pair-requires Inv-loop μ-loop
-read-pair-requires c κs = search needs
+option-pair-requires : tie.Need-option-pair-requires Inv-loop μ-loop
+option-pair-requires c κs = search needs
 
 add-k : tie.Need-add-k Inv-loop μ-loop
 add-k c = search needs
@@ -47,8 +47,8 @@ loop-again c = search needs
 returns-3 : tie.Need-returns-3 Inv-loop μ-loop
 returns-3 c = search needs
 
-pub read-spec : {M : Type 1} → statement M
-read-spec =
+pub option-words-spec : {M : Type 1} → statement M
+option-words-spec =
     tie.close
     (tie.spec
     Inv-loop
@@ -58,9 +58,9 @@ read-spec =
     loop-holds
     returns
     returns-2
-    mul-read-pair
-    add-read-pair
-    read-pair-requires
+    mul-option-pair
+    add-option-pair
+    option-pair-requires
     add-k
     loop-less
     loop-again
