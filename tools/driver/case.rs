@@ -88,7 +88,7 @@ impl Case {
         'again: loop {
             for next in best.simpler() {
                 tries += 1;
-                if tries > 20_000 {
+                if tries > 3_000 {
                     return best;
                 }
                 if next.weight() < best.weight() && fails(&next) {

@@ -238,8 +238,20 @@ fn segments(r: &mut Random, i: u64) -> Case {
     c
 }
 
-// Fills a list about up to the capacity of a version.
-fn fill(r: &mut Random, c: &mut Case, v: u8) {
+/// One segment of a kind, at a version.
+pub fn one_kind(r: &mut Random, c: &mut Case, v: u8, kind: usize) {
+    let n = r.within(1, most(kind, v, c.level));
+    c.records = vec![Record { kind: kind as u64, start: 0, length: n as u64, assign: 0 }];
+    c.text = (0..n).map(|_| character(r, kind)).collect();
+}
+
+/// Every version four times, then some.
+pub fn any_version(r: &mut Random, i: u64) -> u8 {
+    if i < 480 + 640 { ((i - 480) / 16 + 1) as u8 } else { some_version(r) }
+}
+
+/// Fills a list about up to the capacity of a version.
+pub fn fill(r: &mut Random, c: &mut Case, v: u8) {
     let room = capacity(v, c.level);
     let parts = 1 + r.below(6);
     let mut used = 0;
@@ -278,7 +290,7 @@ fn spelled_codewords(r: &mut Random, i: u64) -> Case {
     list.level = r.below(4) as u8;
     let v = if i < 40 { i as u8 + 1 } else { some_version(r) };
     fill(r, &mut list, v);
-    let mut c = Case::new(Entry::Codewords, data_codewords(&list, v, r));
+    let mut c = Case::new(Entry::Codewords, data_codewords(&list, v, |number| some_form(r, number)));
     let level = list.level;
     some_settings(r, &mut c);
     (c.level, c.first) = (level, v);
@@ -289,8 +301,8 @@ fn spelled_codewords(r: &mut Random, i: u64) -> Case {
     c
 }
 
-// The data codewords of as many of a list's records as fit; an ECI number now and then in a longer form than it takes.
-fn data_codewords(list: &Case, v: u8, r: &mut Random) -> Vec<u8> {
+/// The data codewords of as many of a list's records as fit, ECI numbers in the form that is given: value and bits.
+pub fn data_codewords(list: &Case, v: u8, mut eci: impl FnMut(u64) -> (u64, usize)) -> Vec<u8> {
     let room = capacity(v, list.level);
     let mut all: Vec<bool> = Vec::new();
     for record in &list.records {
@@ -305,10 +317,8 @@ fn data_codewords(list: &Case, v: u8, r: &mut Random) -> Vec<u8> {
             1 => part.chunks(2).for_each(|t| put(t.iter().fold(0, |n, b| 45 * n + code(b)), 5 * t.len() + 1)),
             2 => part.iter().for_each(|&b| put(b.into(), 8)),
             _ => {
-                let shortest = if record.assign < 128 { 0 } else if record.assign < 16_384 { 1 } else { 2 };
-                let form = if r.once_in(8) { r.within(shortest, 2) } else { shortest };
-                put([0, 2, 6][form], form + 1);
-                put(record.assign, [7, 14, 21][form]);
+                let (value, n) = eci(record.assign);
+                put(value, n);
             }
         }
         if all.len() > room {
@@ -316,12 +326,27 @@ fn data_codewords(list: &Case, v: u8, r: &mut Random) -> Vec<u8> {
             break;
         }
     }
+    padded(all, room)
+}
+
+// Terminator, fill bits and pad bytes.
+fn padded(mut all: Vec<bool>, room: usize) -> Vec<u8> {
     all.resize((all.len() + 4).min(room), false);
     all.resize(all.len().next_multiple_of(8), false);
     let mut words: Vec<u8> = all.chunks(8).map(|b| b.iter().fold(0, |n, &bit| 2 * n + u8::from(bit))).collect();
     let pads = room / 8 - words.len();
     words.extend([0xEC, 0x11].iter().cycle().take(pads));
     words
+}
+
+// An ECI number in its shortest form, or now and then in a longer one.
+fn some_form(r: &mut Random, number: u64) -> (u64, usize) {
+    let shortest = if number < 128 { 0 } else if number < 16_384 { 1 } else { 2 };
+    match if r.once_in(8) { r.within(shortest, 2) } else { shortest } {
+        0 => (number, 8),
+        1 => (0x8000 | number, 16),
+        _ => (0xC0_0000 | number, 24),
+    }
 }
 
 /*---- Refusals ----*/

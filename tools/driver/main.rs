@@ -57,7 +57,7 @@ fn main() {
         "bench" => bench::bench(),
         "selftest" => selftest(&o),
         "qrencode" => second(&o),
-        _ => compare(&o, Fault::None, true).iter().all(|t| t.differences == 0),
+        _ => compare(&o),
     };
     std::process::exit(if good { 0 } else { 1 });
 }
@@ -119,7 +119,7 @@ impl Tally {
             "{name:18} {:9} cases, {:2} versions, refused: {}; read back {}, not read: {}; {} differences",
             self.cases, self.versions.count_ones(), listed(&self.refusals), self.read, listed(&self.unread), self.differences,
         );
-        for text in self.shown.iter().take(3) {
+        for text in self.shown.iter().take(1) {
             println!("{text}");
         }
     }
@@ -134,26 +134,40 @@ fn listed(numbers: &BTreeMap<u32, u64>) -> String {
 }
 
 /// Runs every family and prints what was counted; the last line has the families that passed.
-fn compare(o: &Options, fault: Fault, print: bool) -> Vec<Tally> {
+fn compare(o: &Options) -> bool {
     let mut all = Vec::new();
     for family in families::families(o.count) {
         if o.only.as_ref().is_some_and(|name| name != family.name) {
             continue;
         }
-        let tally = run_family(o, &family, fault);
-        if print {
-            tally.print(family.name);
-        }
+        let tally = run_family(o, &family, Fault::None);
+        tally.print(family.name);
         all.push(tally);
     }
-    if print {
-        let sum: u64 = all.iter().map(|t| t.cases).sum();
-        let read: u64 = all.iter().map(|t| t.read).sum();
-        let failed = all.iter().filter(|t| t.differences > 0).count();
-        println!("{sum} cases with seed {}, {read} labels read back", o.seed);
-        println!("{} passed, {failed} failed", all.len() - failed);
+    if o.only.is_none() {
+        all.push(programs());
     }
-    all
+    let sum: u64 = all.iter().map(|t| t.cases).sum();
+    let read: u64 = all.iter().map(|t| t.read).sum();
+    let failed = all.iter().filter(|t| t.differences > 0).count();
+    println!("{sum} cases with seed {}, {read} labels read back", o.seed);
+    println!("{} passed, {failed} failed", all.len() - failed);
+    failed == 0 && sum > 0
+}
+
+// One program that is written for the original, compiled against it and against the port's Rust crate, prints the same.
+fn programs() -> Tally {
+    let folder = std::env::current_exe().unwrap().with_file_name("");
+    let printed = |name: &str| std::process::Command::new(folder.join(name)).output().map(|o| (o.status.success(), o.stdout));
+    let mut tally = Tally { cases: 1, ..Tally::default() };
+    match (printed("program_original"), printed("program_port")) {
+        (Ok(a), Ok(b)) if a.0 && !a.1.is_empty() && a == b => println!("program: {} bytes alike", a.1.len()),
+        _ => {
+            println!("program: target/driver/program_original and program_port do not print the same");
+            tally.differences = 1;
+        }
+    }
+    tally
 }
 
 // Shares a family's cases among the jobs, in pieces of 64.
@@ -191,7 +205,7 @@ fn run_case(seed: u64, family: &Family, i: u64, worker: &mut Worker, tally: &mut
         Err(_) => {
             tally.cases += 1;
             tally.differences += 1;
-            if tally.shown.len() < 2 {
+            if tally.shown.is_empty() {
                 let small = case.shrink(|c| run(c).is_err());
                 let difference = run(&small).err().unwrap_or_default();
                 tally.shown.push(format!("    case {i}: {difference}\n    smallest: {small:?}"));
@@ -200,18 +214,22 @@ fn run_case(seed: u64, family: &Family, i: u64, worker: &mut Worker, tally: &mut
     }
 }
 
-/// Puts each fault in and demands that it is found: a comparison that can't fail shows nothing.
+/// Puts each fault in and demands that a family finds it: a comparison that can't fail shows nothing.
 fn selftest(o: &Options) -> bool {
     let mut missed = 0;
     for fault in FAULTS {
-        let few = Options { command: String::new(), only: o.only.clone(), count: 20_000, ..*o };
-        let tallies = compare(&few, fault, false);
-        let found: u64 = tallies.iter().map(|t| t.differences).sum();
-        println!("fault {fault:?}: {found} differences");
-        if let Some(text) = tallies.iter().flat_map(|t| &t.shown).min_by_key(|t| t.len()) {
-            println!("{text}");
+        let found = families::families(0).into_iter().rev().find_map(|family| {
+            let few = Family { cases: family.cases.min(500), ..family };
+            let tally = run_family(o, &few, fault);
+            tally.shown.into_iter().next().map(|text| (few.name, text))
+        });
+        match found {
+            Some((name, text)) => println!("fault {fault:?} is found by {name}\n{text}"),
+            None => {
+                println!("fault {fault:?} is not found");
+                missed += 1;
+            }
         }
-        missed += usize::from(found == 0);
     }
     println!("{} passed, {missed} failed", FAULTS.len() - missed);
     missed == 0
