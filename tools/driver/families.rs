@@ -90,12 +90,13 @@ fn some_range(r: &mut Random, c: &mut Case, i: u64) -> u8 {
     v
 }
 
-// A length that is near the most, or anything up to it; sometimes above.
+// A length that is near the most, or anything up to it; sometimes above, or near the end of a count field.
 fn some_length(r: &mut Random, most: usize) -> usize {
-    match r.below(10) {
-        0..=3 => most.saturating_sub(r.below(4)),
-        4..=8 => r.within(0, most),
-        _ => most + r.within(1, 3),
+    match r.below(100) {
+        0..=39 => most.saturating_sub(r.below(4)),
+        40..=89 => r.within(0, most),
+        90..=98 => most + r.within(1, 3),
+        _ => (1 << r.within(8, 14)) + r.within(0, 2) - 1,
     }
 }
 
@@ -235,6 +236,11 @@ fn segments(r: &mut Random, i: u64) -> Case {
         let r0 = c.records[r.below(c.records.len())];
         c.records.push(Record { length: r.within(0, r0.length as usize) as u64, ..r0 });
     }
+    if r.once_in(40) {
+        let empty = Record { kind: r.below(3) as u64, start: c.text.len() as u64, length: 0, assign: 0 };
+        let n = r.within(1, 200);
+        c.records.extend(vec![empty; n]);
+    }
     c
 }
 
@@ -250,6 +256,12 @@ pub fn any_version(r: &mut Random, i: u64) -> u8 {
     if i < 480 + 640 { ((i - 480) / 16 + 1) as u8 } else { some_version(r) }
 }
 
+// An ECI number of every size, the ends of each more often.
+fn some_number(r: &mut Random) -> usize {
+    let below = [128, 16_384, 1_000_000][r.below(3)];
+    if r.once_in(4) { below - 1 } else if r.once_in(4) { [0, 128, 16_384][r.below(3)] } else { r.below(below) }
+}
+
 /// Fills a list about up to the capacity of a version.
 pub fn fill(r: &mut Random, c: &mut Case, v: u8) {
     let room = capacity(v, c.level);
@@ -258,8 +270,7 @@ pub fn fill(r: &mut Random, c: &mut Case, v: u8) {
     for _ in 0..parts {
         let kind = r.below(4);
         if kind == 3 {
-            let below = [128, 16_384, 1_000_000][r.below(3)];
-            let assign = r.below(below);
+            let assign = some_number(r);
             used += bits(3, assign, v);
             c.records.push(Record { kind: 3, start: 0, length: 0, assign: assign as u64 });
             continue;

@@ -94,12 +94,13 @@ struct Tally {
     versions: u64,
     masks: BTreeMap<u8, u64>,
     other_choice: u64,
+    by_rule: u64,
     long_eci: u64,
     larger: u64,
     differences: Vec<String>,
 }
 
-/// Compares as many lists as are asked for, and the fixed ones.
+/// Compares as many lists as are asked for, and the fixed ones; a choice of mask that its rule does not explain fails too.
 pub fn compare(seed: u64, count: u64, jobs: usize) -> bool {
     let total = Mutex::new([Tally::default(), Tally::default()]);
     let next = AtomicU64::new(0);
@@ -123,12 +124,12 @@ pub fn compare(seed: u64, count: u64, jobs: usize) -> bool {
     for (name, t) in CASES.iter().zip(&tallies) {
         let alike = t.cases - t.differences.len() as u64;
         println!("{name}: {alike} grids alike, {} differ; {} versions; {} lists did not fit and were left out", t.differences.len(), t.versions.count_ones(), t.skipped);
-        println!("    masks that it chose: {:?}; {} times another than ours", t.masks, t.other_choice);
+        println!("    masks that it chose: {:?}; {} times another than ours; by its own rule {} times", t.masks, t.other_choice, t.by_rule);
         println!("    a larger version than needed {} times; ECI numbers from 16,384 on in its own form {} times", t.larger, t.long_eci);
         if let Some(smallest) = t.differences.iter().min_by_key(|d| d.len()) {
             println!("    {smallest}");
         }
-        failed += usize::from(!t.differences.is_empty() || t.cases == 0);
+        failed += usize::from(!t.differences.is_empty() || t.by_rule != alike || alike == 0);
     }
     println!("{} passed, {failed} failed", CASES.len() - failed);
     failed == 0
@@ -136,14 +137,15 @@ pub fn compare(seed: u64, count: u64, jobs: usize) -> bool {
 
 enum Result {
     Skipped,
-    Alike { version: u8, mask: u8, chosen: u8, long_eci: bool },
+    Alike { version: u8, mask: u8, chosen: u8, by_rule: bool, long_eci: bool },
     Differs(String),
 }
 
 fn note(tally: &mut Tally, result: Result, case: &Case, v: u8) {
     match result {
         Result::Skipped => tally.skipped += 1,
-        Result::Alike { version, mask, chosen, long_eci } => {
+        Result::Alike { version, mask, chosen, by_rule, long_eci } => {
+            tally.by_rule += u64::from(by_rule);
             tally.cases += 1;
             tally.versions |= 1 << version;
             tally.larger += u64::from(version > v);
@@ -162,8 +164,7 @@ fn note(tally: &mut Tally, result: Result, case: &Case, v: u8) {
 // fills its version may get a larger one.
 fn one(case: &Case, v: u8) -> Result {
     let (mut grid, mut scratch) = (vec![0; GRID], vec![0; SCRATCH]);
-    let mut ours = |v, mask| raw::encode_segments(&case.text, &case.records, case.level, v, v, mask, false, &mut grid, &mut scratch);
-    if ours(v, 0).number != 0 {
+    if raw::encode_segments(&case.text, &case.records, case.level, v, v, 0, false, &mut grid, &mut scratch).number != 0 {
         return Result::Skipped;
     }
     let Some((version, theirs)) = draw(&case.text, &case.records, v, case.level) else {
@@ -175,15 +176,20 @@ fn one(case: &Case, v: u8) -> Result {
     }
     let mask = mask_of(&theirs, n);
     let long_eci = case.records.iter().any(|r| r.kind == 3 && r.assign >= 16_384);
-    let (chosen, answer) = if long_eci {
-        let data = families::data_codewords(case, version, its_form);
-        let mut words = |mask| raw::encode_codewords(version, case.level, &data, mask, &mut grid, &mut scratch);
-        (words(raw::MASK_AUTO).mask, words(mask))
-    } else {
-        (ours(version, raw::MASK_AUTO).mask, ours(version, mask))
+    let data = families::data_codewords(case, version, its_form);
+    let mut draw = |mask| {
+        let answer = if long_eci {
+            raw::encode_codewords(version, case.level, &data, mask, &mut grid, &mut scratch)
+        } else {
+            raw::encode_segments(&case.text, &case.records, case.level, version, version, mask, false, &mut grid, &mut scratch)
+        };
+        (answer, grid[..n * n].to_vec())
     };
-    if answer.number == 0 && grid[..n * n] == theirs[..] {
-        return Result::Alike { version, mask, chosen, long_eci };
+    let (answer, drawn) = draw(mask);
+    if answer.number == 0 && drawn == theirs {
+        let chosen = draw(raw::MASK_AUTO).0.mask;
+        let by_rule = its_choice(|m| draw(m).1, n) == mask;
+        return Result::Alike { version, mask, chosen, by_rule, long_eci };
     }
     Result::Differs(format!("grids differ at mask {mask}"))
 }
@@ -196,4 +202,36 @@ fn its_form(number: u64) -> (u64, usize) {
         128..=16_383 => (0x8000 + number, 16),
         _ => (0x0C_0000 + number, 24),
     }
+}
+
+/*---- The mask that it chooses ----*/
+
+/// The mask that its rule gives: the lowest of least penalty, where the penalty differs from the original's in two ways.
+fn its_choice(mut draw: impl FnMut(u8) -> Vec<u8>, n: usize) -> u8 {
+    (0..8).min_by_key(|&mask| its_penalty(&draw(mask), n)).unwrap()
+}
+
+// Runs and squares cost as in document 01. Balance costs 10 for each whole 5 % that the rounded share of dark is off 50 %.
+fn its_penalty(grid: &[u8], n: usize) -> usize {
+    let lines = (0..n).flat_map(|i| [grid[i * n..][..n].to_vec(), (0..n).map(|j| grid[j * n + i]).collect()]);
+    let cost: usize = lines.map(|line| its_line(&line)).sum();
+    let square = |i: usize| [i + 1, i + n, i + n + 1].iter().all(|&j| grid[j] == grid[i]);
+    let squares = (0..n * (n - 1)).filter(|&i| i % n + 1 < n && square(i)).count();
+    let dark = grid.iter().filter(|&&b| b == 1).count();
+    let percent = (200 * dark + n * n) / (n * n) / 2;
+    cost + 3 * squares + percent.abs_diff(50) / 5 * 10
+}
+
+// A finder-like core costs once, if light of four times its width, or the border, lies on one side; the other side is not looked at.
+fn its_line(line: &[u8]) -> usize {
+    let mut runs: Vec<usize> = if line[0] == 1 { vec![0] } else { vec![] };
+    runs.extend(line.chunk_by(|a, b| a == b).map(|run| run.len()));
+    let long: usize = runs.iter().filter(|&&run| run >= 5).map(|run| run - 2).sum();
+    let core = |i: usize| {
+        let w = runs[i] / 3;
+        let whole = runs[i] % 3 == 0 && [i - 2, i - 1, i + 1, i + 2].iter().all(|&j| runs[j] == w);
+        whole && (i == 3 || runs[i - 3] >= 4 * w || i + 4 >= runs.len() || runs[i + 3] >= 4 * w)
+    };
+    let cores = (3..runs.len().saturating_sub(2)).filter(|&i| i % 2 == 1 && core(i)).count();
+    long + 40 * cores
 }
