@@ -24,6 +24,8 @@ pub fn families(count: u64) -> Vec<Family> {
         ("count fields", 40 * 4 * 3 * 3, count_fields),
         ("last bits", 40 * 4 * 13, last_bits),
         ("record counts", 8, record_counts),
+        ("long texts", 12, long_texts),
+        ("settings", 65_536 + 3 * 256, settings),
         ("flips", 8 * 441 + 8 * 2025, flips),
         ("sides", 2 * 203, sides),
     ];
@@ -191,6 +193,29 @@ fn record_counts(_: &mut Random, i: u64) -> Case {
     c.records = vec![if i == 4 || i == 5 { eci } else { empty }; n];
     if i == 3 {
         (c.first, c.last) = (10, 10);
+    }
+    c
+}
+
+// Texts far above what any label holds, of each kind, as text and as bytes.
+fn long_texts(r: &mut Random, i: u64) -> Case {
+    let (kind, n) = (i as usize % 3, [70_000, 1_000_000][i as usize / 3 % 2]);
+    Case::new([Entry::Text, Entry::Binary][i as usize / 6], (0..n).map(|_| character(r, kind)).collect())
+}
+
+// Every pair of bounds, every level, every mask and every version of the codeword entry, from 0 to 255.
+fn settings(_: &mut Random, i: u64) -> Case {
+    let mut c = Case::new(Entry::Text, b"LP".to_vec());
+    let n = i as u8;
+    match i / 256 {
+        first @ 0..=255 => (c.first, c.last) = (first as u8, n),
+        256 => c.level = n,
+        257 => c.mask = n,
+        _ => {
+            let right = if (1..=40).contains(&n) { capacity(n, 0) / 8 } else { 19 };
+            c = Case::new(Entry::Codewords, vec![b'0'; right]);
+            c.first = n;
+        }
     }
     c
 }
