@@ -34,10 +34,16 @@ fn rows() -> Vec<Row> {
 
 /// Measures and prints the table; true, as there is nothing here that fails.
 pub fn bench() -> bool {
-    println!("level Low, versions 1 to 40, no boost; best of {ROUNDS} rounds of at least {} ms each, in microseconds a call", ROUND / 1_000_000);
+    println!(
+        "level Low, versions 1 to 40, no boost; best of {ROUNDS} rounds of at least {} ms each, in microseconds a call",
+        ROUND / 1_000_000
+    );
     println!("The port draws in buffers that the caller lends and does not clear between calls; the call itself zeroes 40,000 bytes of scratch.");
     println!("The original and libqrencode allocate and free in each call; the original's segments are made in the call, as the port's are.");
-    println!("{:30} {:>10} {:>10} {:>12} {:>12} {:>16}", "", "port", "Rust", "port / Rust", "libqrencode", "port / libqrencode");
+    println!(
+        "{:30} {:>10} {:>10} {:>12} {:>12} {:>16}",
+        "", "port", "Rust", "port / Rust", "libqrencode", "port / libqrencode"
+    );
     for row in rows() {
         draw_row(&row);
     }
@@ -69,17 +75,30 @@ fn draw_row(row: &Row) {
     let (mut grid, mut scratch) = (vec![0; GRID], vec![0; SCRATCH]);
     let records = [Record { kind: row.kind, start: 0, length: row.text.len() as u64, assign: 0 }];
     let mut port = || {
-        let answer = raw::encode_segments(black_box(&row.text), &records, 0, 1, 40, row.mask, false, &mut grid, &mut scratch);
+        let answer =
+            raw::encode_segments(black_box(&row.text), &records, 0, 1, 40, row.mask, false, &mut grid, &mut scratch);
         assert_eq!(black_box(answer).number, 0);
     };
     let mut rust = || {
         let text = black_box(&row.text);
-        let seg = if row.kind == 0 { QrSegment::make_numeric(std::str::from_utf8(text).unwrap()) } else { QrSegment::make_bytes(text) };
+        let seg = if row.kind == 0 {
+            QrSegment::make_numeric(std::str::from_utf8(text).unwrap())
+        } else {
+            QrSegment::make_bytes(text)
+        };
         let qr = QrCode::encode_segments_advanced(&[seg], LEVELS[0], Version::MIN, Version::MAX, mask(row.mask), false);
         assert!(black_box(qr).is_ok());
     };
     let (times, other) = measure(row, &records, &mut port, &mut rust);
-    println!("{:30} {:10.1} {:10.1} {:12.2} {:>12} {:>16}", row.name, times[0], times[1], times[0] / times[1], told(other, 1), told(other.map(|t| times[0] / t), 2));
+    println!(
+        "{:30} {:10.1} {:10.1} {:12.2} {:>12} {:>16}",
+        row.name,
+        times[0],
+        times[1],
+        times[0] / times[1],
+        told(other, 1),
+        told(other.map(|t| times[0] / t), 2)
+    );
 }
 
 fn told(number: Option<f64>, places: usize) -> String {
@@ -111,9 +130,11 @@ fn read_row(row: &Row) {
     let size = 4 * usize::from(answer.version) + 17;
     let drawn = grid[..size * size].to_vec();
     let (mut text, mut list) = (vec![0; TEXT], vec![Record::default(); 4]);
-    let mut reading = || assert_eq!(black_box(raw::read(black_box(&drawn), size, &mut text, &mut list, &mut scratch)).number, 0);
+    let mut reading =
+        || assert_eq!(black_box(raw::read(black_box(&drawn), size, &mut text, &mut list, &mut scratch)).number, 0);
     let mut drawing = || {
-        let answer = raw::encode_segments(black_box(&row.text), &records, 0, 1, 40, row.mask, false, &mut grid, &mut again);
+        let answer =
+            raw::encode_segments(black_box(&row.text), &records, 0, 1, 40, row.mask, false, &mut grid, &mut again);
         assert_eq!(black_box(answer).number, 0);
     };
     let times = best(&mut [&mut reading, &mut drawing]);

@@ -73,11 +73,24 @@ impl Case {
     /// How much there is to read in a case; a smaller one shows a difference better.
     fn weight(&self) -> u64 {
         let bytes: u64 = self.text.iter().map(|&b| 4 + u64::from(b != b'0')).sum();
-        let records: u64 = self.records.iter().map(|r| 1000 + r.kind.min(9) + r.length.min(9999) + r.start.min(9999) + r.assign.min(9999)).sum();
-        let settings = u64::from(self.level) + u64::from(self.first) + u64::from(40u8.abs_diff(self.last)) + u64::from(self.mask) + u64::from(self.boost);
+        let records: u64 = self
+            .records
+            .iter()
+            .map(|r| 1000 + r.kind.min(9) + r.length.min(9999) + r.start.min(9999) + r.assign.min(9999))
+            .sum();
+        let settings = u64::from(self.level)
+            + u64::from(self.first)
+            + u64::from(40u8.abs_diff(self.last))
+            + u64::from(self.mask)
+            + u64::from(self.boost);
         let lent = self.grid.unsigned_abs() + self.scratch.abs_diff(SCRATCH) as u64;
         let r = &self.reading;
-        let read = 50 * r.edits.len() as u64 + r.resize.unsigned_abs() + u64::from(r.size.is_some()) + r.text.unsigned_abs() + r.records.unsigned_abs() + r.scratch.abs_diff(SCRATCH) as u64;
+        let read = 50 * r.edits.len() as u64
+            + r.resize.unsigned_abs()
+            + u64::from(r.size.is_some())
+            + r.text.unsigned_abs()
+            + r.records.unsigned_abs()
+            + r.scratch.abs_diff(SCRATCH) as u64;
         100 * (bytes + records) + 10 * (read + lent) + settings
     }
 

@@ -9,6 +9,8 @@ pub struct Family {
     /// How many cases it has.
     pub cases: u64,
     pub make: fn(&mut Random, u64) -> Case,
+    /// Whether its cases are random, so that there can be fewer.
+    pub random: bool,
     /// Whether it goes through the Rust crate's own names.
     pub bound: bool,
 }
@@ -39,9 +41,14 @@ pub fn families(count: u64) -> Vec<Family> {
         ("readings", 6, readings),
     ];
     let left = count.saturating_sub(fixed.iter().map(|f| f.1).sum()).max(20_000);
-    let mut all: Vec<Family> = fixed.iter().map(|&(name, cases, make)| Family { name, cases, make, bound: false }).collect();
-    all.extend(random.iter().map(|&(name, share, make)| Family { name, cases: (left * share / 100).max(320), make, bound: false }));
-    all.push(Family { name: "Rust crate", cases: left * 2 / 100, make: bindings, bound: true });
+    let mut all = Vec::new();
+    for (name, cases, make) in fixed {
+        all.push(Family { name, cases, make, random: false, bound: false });
+    }
+    for (name, share, make) in random {
+        all.push(Family { name, cases: (left * share / 100).max(320), make, random: true, bound: false });
+    }
+    all.push(Family { name: "Rust crate", cases: left * 2 / 100, make: bindings, random: true, bound: true });
     all
 }
 
@@ -57,10 +64,10 @@ fn some_version(r: &mut Random) -> u8 {
     }) as u8
 }
 
-// Level, mask and boost; the automatic choice for one in four.
+// Level, mask and boost; the automatic choice, which takes ten times as long, for one in eight.
 fn some_settings(r: &mut Random, c: &mut Case) {
     c.level = r.below(4) as u8;
-    c.mask = if r.once_in(4) { 8 } else { r.below(8) as u8 };
+    c.mask = if r.once_in(8) { 8 } else { r.below(8) as u8 };
     c.boost = r.once_in(2);
     lend(r, c);
 }
@@ -140,7 +147,8 @@ fn two_bytes(_: &mut Random, i: u64) -> Case {
 
 // The longest text of each kind at each version and level, one less and one more; the version alone, and all from 1 on.
 fn longest(r: &mut Random, i: u64) -> Case {
-    let (v, level, kind, more, alone) = ((i % 40 + 1) as u8, (i / 40 % 4) as u8, (i / 160 % 3) as usize, i / 480 % 3, i / 1440 == 0);
+    let (v, level, kind, more, alone) =
+        ((i % 40 + 1) as u8, (i / 40 % 4) as u8, (i / 160 % 3) as usize, i / 480 % 3, i / 1440 == 0);
     let n = most(kind, v, level) + more as usize - 1;
     let text: Vec<u8> = (0..n).map(|_| character(r, kind)).collect();
     let mut c = Case::new(Entry::Segments, text);
@@ -173,7 +181,12 @@ fn last_bits(r: &mut Random, i: u64) -> Case {
             let used = bits(0, digits, v) + bits(1, letters, v) + bits(2, 0, v);
             if used <= room && (room - used) % 8 == 0 && c.records.is_empty() {
                 for (kind, n) in [(0, digits), (1, letters), (2, (room - used) / 8)] {
-                    c.records.push(Record { kind: kind as u64, start: c.text.len() as u64, length: n as u64, assign: 0 });
+                    c.records.push(Record {
+                        kind: kind as u64,
+                        start: c.text.len() as u64,
+                        length: n as u64,
+                        assign: 0,
+                    });
                     c.text.extend((0..n).map(|_| character(r, kind)));
                 }
             }
@@ -278,13 +291,23 @@ pub fn one_kind(r: &mut Random, c: &mut Case, v: u8, kind: usize) {
 
 /// Every version four times, then some.
 pub fn any_version(r: &mut Random, i: u64) -> u8 {
-    if i < 480 + 640 { ((i - 480) / 16 + 1) as u8 } else { some_version(r) }
+    if i < 480 + 640 {
+        ((i - 480) / 16 + 1) as u8
+    } else {
+        some_version(r)
+    }
 }
 
 // An ECI number of every size, the ends of each more often.
 fn some_number(r: &mut Random) -> usize {
     let below = [128, 16_384, 1_000_000][r.below(3)];
-    if r.once_in(4) { below - 1 } else if r.once_in(4) { [0, 128, 16_384][r.below(3)] } else { r.below(below) }
+    if r.once_in(4) {
+        below - 1
+    } else if r.once_in(4) {
+        [0, 128, 16_384][r.below(3)]
+    } else {
+        r.below(below)
+    }
 }
 
 /// Fills a list about up to the capacity of a version.
@@ -377,7 +400,13 @@ fn padded(mut all: Vec<bool>, room: usize) -> Vec<u8> {
 
 // An ECI number in its shortest form, or now and then in a longer one.
 fn some_form(r: &mut Random, number: u64) -> (u64, usize) {
-    let shortest = if number < 128 { 0 } else if number < 16_384 { 1 } else { 2 };
+    let shortest = if number < 128 {
+        0
+    } else if number < 16_384 {
+        1
+    } else {
+        2
+    };
     match if r.once_in(8) { r.within(shortest, 2) } else { shortest } {
         0 => (number, 8),
         1 => (0x8000 | number, 16),
@@ -450,7 +479,8 @@ fn spoil(r: &mut Random, c: &mut Case) {
 
 // Every module of eight labels of version 1 and eight of version 7, changed alone.
 fn flips(_: &mut Random, i: u64) -> Case {
-    let (v, label, place) = if i < 8 * 441 { (1, i / 441, i % 441) } else { (7, (i - 8 * 441) / 2025, (i - 8 * 441) % 2025) };
+    let (v, label, place) =
+        if i < 8 * 441 { (1, i / 441, i % 441) } else { (7, (i - 8 * 441) / 2025, (i - 8 * 441) % 2025) };
     let mut c = Case::new(Entry::Text, format!("LP{label}").into_bytes());
     (c.level, c.mask, c.first, c.last) = ((label % 4) as u8, label as u8, v, v);
     c.reading.edits = vec![(place as usize, 1)];

@@ -15,17 +15,21 @@ use run::{run_bindings, Fault, Seen, Worker, FAULTS};
 use std::collections::BTreeMap;
 use std::sync::atomic::{AtomicU64, Ordering};
 use std::sync::Mutex;
+use std::time::{Duration, Instant};
 
 struct Options {
     command: String,
     seed: u64,
     count: u64,
     jobs: usize,
+    /// Seconds after which the random families end early.
+    seconds: u64,
     only: Option<String>,
 }
 
 fn options() -> Options {
-    let mut o = Options { command: "compare".into(), seed: 1, count: 1_000_000, jobs: 2, only: None };
+    let mut o =
+        Options { command: "compare".into(), seed: 1, count: 1_000_000, jobs: 2, seconds: 1_000_000, only: None };
     let mut words = std::env::args().skip(1);
     let number = |word: Option<String>, name: &str| {
         word.and_then(|w| w.replace('_', "").parse().ok()).unwrap_or_else(|| usage(&format!("{name} takes a number")))
@@ -35,6 +39,7 @@ fn options() -> Options {
             "--seed" => o.seed = number(words.next(), "--seed"),
             "--count" => o.count = number(words.next(), "--count"),
             "--jobs" => o.jobs = number(words.next(), "--jobs").max(1) as usize,
+            "--seconds" => o.seconds = number(words.next(), "--seconds"),
             "--only" => o.only = words.next(),
             "--quick" => o.count = 100_000,
             "--selftest" => o.command = "selftest".into(),
@@ -47,7 +52,9 @@ fn options() -> Options {
 }
 
 fn usage(why: &str) -> ! {
-    eprintln!("{why}\ntools/compare [--seed N] [--count N] [--quick] [--jobs N] [--only FAMILY] [--selftest | --qrencode]");
+    eprintln!(
+        "{why}\ntools/compare [--seed N] [--count N] [--quick] [--seconds N] [--jobs N] [--only FAMILY] [--selftest | --qrencode]"
+    );
     std::process::exit(2);
 }
 
@@ -117,7 +124,12 @@ impl Tally {
     fn print(&self, name: &str) {
         println!(
             "{name:18} {:9} cases, {:2} versions, refused: {}; read back {}, not read: {}; {} differences",
-            self.cases, self.versions.count_ones(), listed(&self.refusals), self.read, listed(&self.unread), self.differences,
+            self.cases,
+            self.versions.count_ones(),
+            listed(&self.refusals),
+            self.read,
+            listed(&self.unread),
+            self.differences,
         );
         for text in self.shown.iter().take(1) {
             println!("{text}");
@@ -135,12 +147,15 @@ fn listed(numbers: &BTreeMap<u32, u64>) -> String {
 
 /// Runs every family and prints what was counted; the last line has the families that passed.
 fn compare(o: &Options) -> bool {
+    let start = Instant::now();
     let mut all = Vec::new();
-    for family in families::families(o.count) {
-        if o.only.as_ref().is_some_and(|name| name != family.name) {
-            continue;
-        }
-        let tally = run_family(o, &family, Fault::None);
+    let mut families = families::families(o.count);
+    families.retain(|f| o.only.as_ref().map_or(true, |name| name == f.name));
+    for (i, family) in families.iter().enumerate() {
+        let left: u64 = families[i..].iter().filter(|f| f.random).map(|f| f.cases).sum();
+        let time = Duration::from_secs(o.seconds).saturating_sub(start.elapsed());
+        let time = if family.random { time.mul_f64(family.cases as f64 / left as f64) } else { Duration::MAX };
+        let tally = run_family(o, family, Fault::None, time);
         tally.print(family.name);
         all.push(tally);
     }
@@ -158,7 +173,8 @@ fn compare(o: &Options) -> bool {
 // One program that is written for the original, compiled against it and against the port's Rust crate, prints the same.
 fn programs() -> Tally {
     let folder = std::env::current_exe().unwrap().with_file_name("");
-    let printed = |name: &str| std::process::Command::new(folder.join(name)).output().map(|o| (o.status.success(), o.stdout));
+    let printed =
+        |name: &str| std::process::Command::new(folder.join(name)).output().map(|o| (o.status.success(), o.stdout));
     let mut tally = Tally { cases: 1, ..Tally::default() };
     match (printed("program_original"), printed("program_port")) {
         (Ok(a), Ok(b)) if a.0 && !a.1.is_empty() && a == b => println!("program: {} bytes alike", a.1.len()),
@@ -170,8 +186,9 @@ fn programs() -> Tally {
     tally
 }
 
-// Shares a family's cases among the jobs, in pieces of 64.
-fn run_family(o: &Options, family: &Family, fault: Fault) -> Tally {
+// Shares a family's cases among the jobs, in pieces of 64, and ends early when its time is over.
+fn run_family(o: &Options, family: &Family, fault: Fault, time: Duration) -> Tally {
+    let start = Instant::now();
     let next = AtomicU64::new(0);
     let total = Mutex::new(Tally::default());
     std::thread::scope(|scope| {
@@ -181,7 +198,7 @@ fn run_family(o: &Options, family: &Family, fault: Fault) -> Tally {
                 let mut tally = Tally::default();
                 loop {
                     let from = next.fetch_add(64, Ordering::Relaxed);
-                    if from >= family.cases {
+                    if from >= family.cases || from > 0 && start.elapsed() > time {
                         break;
                     }
                     for i in from..(from + 64).min(family.cases) {
@@ -220,7 +237,7 @@ fn selftest(o: &Options) -> bool {
     for fault in FAULTS {
         let found = families::families(0).into_iter().rev().find_map(|family| {
             let few = Family { cases: family.cases.min(500), ..family };
-            let tally = run_family(o, &few, fault);
+            let tally = run_family(o, &few, fault, Duration::MAX);
             tally.shown.into_iter().next().map(|text| (few.name, text))
         });
         match found {

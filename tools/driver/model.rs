@@ -31,7 +31,13 @@ pub fn side(version: u8) -> usize {
 
 /// Width of the count field of a kind at a version.
 pub fn width(kind: usize, version: u8) -> usize {
-    let class = if version <= 9 { 0 } else if version <= 26 { 1 } else { 2 };
+    let class = if version <= 9 {
+        0
+    } else if version <= 26 {
+        1
+    } else {
+        2
+    };
     [[10, 12, 14], [9, 11, 13], [8, 16, 16], [0, 0, 0]][kind][class]
 }
 
@@ -41,7 +47,15 @@ pub fn bits(kind: usize, n: usize, version: u8) -> usize {
         0 => n / 3 * 10 + [0, 4, 7][n % 3],
         1 => n / 2 * 11 + n % 2 * 6,
         2 => 8 * n,
-        _ => if n < 128 { 8 } else if n < 16_384 { 16 } else { 24 },
+        _ => {
+            if n < 128 {
+                8
+            } else if n < 16_384 {
+                16
+            } else {
+                24
+            }
+        }
     };
     4 + width(kind, version) + payload
 }
@@ -51,7 +65,14 @@ pub fn capacity(version: u8, level: u8) -> usize {
     static TABLE: OnceLock<Vec<usize>> = OnceLock::new();
     let table = TABLE.get_or_init(|| {
         let long: Vec<QrSegment> = (0..20).map(|_| QrSegment::make_bytes(&[0; 200])).collect();
-        let ask = |v: u8, l: usize| match QrCode::encode_segments_advanced(&long, LEVELS[l], Version::new(v), Version::new(v), None, false) {
+        let ask = |v: u8, l: usize| match QrCode::encode_segments_advanced(
+            &long,
+            LEVELS[l],
+            Version::new(v),
+            Version::new(v),
+            None,
+            false,
+        ) {
             Err(DataTooLong::DataOverCapacity(_, capacity)) => capacity,
             _ => panic!("4,000 bytes fit no version"),
         };
@@ -84,7 +105,9 @@ fn well_made(r: &Record, text: &[u8]) -> bool {
     match r.kind {
         0..=2 => {
             let end = u128::from(r.start) + u128::from(r.length);
-            r.assign == 0 && end <= text.len() as u128 && text[r.start as usize..end as usize].iter().all(|&b| of_kind(r.kind, b))
+            r.assign == 0
+                && end <= text.len() as u128
+                && text[r.start as usize..end as usize].iter().all(|&b| of_kind(r.kind, b))
         }
         3 => r.start == 0 && r.length == 0 && r.assign < 1_000_000,
         _ => false,
@@ -249,7 +272,12 @@ fn number(take: &mut impl FnMut(usize) -> Option<usize>) -> Option<usize> {
 }
 
 /// The n characters of a segment, put behind the text; answers 0, the assign of such a record.
-fn characters(kind: usize, n: usize, text: &mut Vec<u8>, take: &mut impl FnMut(usize) -> Option<usize>) -> Option<usize> {
+fn characters(
+    kind: usize,
+    n: usize,
+    text: &mut Vec<u8>,
+    take: &mut impl FnMut(usize) -> Option<usize>,
+) -> Option<usize> {
     let (base, group, widths) = [(10, 3, [0, 4, 7, 10]), (45, 2, [0, 6, 11, 0]), (256, 1, [0, 8, 0, 0])][kind];
     let mut left = n;
     while left > 0 {
@@ -270,7 +298,14 @@ fn characters(kind: usize, n: usize, text: &mut Vec<u8>, take: &mut impl FnMut(u
 }
 
 /// What the reader must answer: number, details, and the label where it is told.
-pub fn reading<'a>(grid: &[u8], size: usize, text: usize, records: usize, scratch: usize, shown: Option<&'a Label>) -> Result<&'a Label, (u32, u64)> {
+pub fn reading<'a>(
+    grid: &[u8],
+    size: usize,
+    text: usize,
+    records: usize,
+    scratch: usize,
+    shown: Option<&'a Label>,
+) -> Result<&'a Label, (u32, u64)> {
     if !(21..=177).contains(&size) || size % 4 != 1 {
         return Err((11, size as u64));
     }

@@ -3,7 +3,7 @@ use crate::case::{Case, Entry};
 use crate::families;
 use crate::model::side;
 use crate::random::Random;
-use gatemurmur::raw::{self, Record, GRID, SCRATCH};
+use gatemurmur::raw::{self, Record, SCRATCH};
 use std::collections::BTreeMap;
 use std::os::raw::{c_char, c_int, c_uchar, c_uint, c_void};
 use std::sync::atomic::{AtomicU64, Ordering};
@@ -41,10 +41,11 @@ pub fn draw(text: &[u8], records: &[Record], version: u8, level: u8) -> Option<(
         let mut good = !input.is_null();
         for r in records {
             let part = &text[r.start as usize..][..r.length as usize];
-            good = good && 0 == match r.kind {
-                3 => QRinput_appendECIheader(input, r.assign as c_uint),
-                kind => QRinput_append(input, kind as c_int, part.len() as c_int, part.as_ptr()),
-            };
+            good = good
+                && 0 == match r.kind {
+                    3 => QRinput_appendECIheader(input, r.assign as c_uint),
+                    kind => QRinput_append(input, kind as c_int, part.len() as c_int, part.as_ptr()),
+                };
         }
         let code = if good { QRcode_encodeInput(input) } else { std::ptr::null_mut() };
         let drawn = code.as_ref().map(|c| {
@@ -118,21 +119,34 @@ pub fn compare(seed: u64, count: u64, jobs: usize) -> bool {
             });
         }
     });
-    let tallies = total.into_inner().unwrap();
     println!("libqrencode {}", version());
-    let mut failed = 0;
-    for (name, t) in CASES.iter().zip(&tallies) {
-        let alike = t.cases - t.differences.len() as u64;
-        println!("{name}: {alike} grids alike, {} differ; {} versions; {} lists did not fit and were left out", t.differences.len(), t.versions.count_ones(), t.skipped);
-        println!("    masks that it chose: {:?}; {} times another than ours; by its own rule {} times", t.masks, t.other_choice, t.by_rule);
-        println!("    a larger version than needed {} times; ECI numbers from 16,384 on in its own form {} times", t.larger, t.long_eci);
-        if let Some(smallest) = t.differences.iter().min_by_key(|d| d.len()) {
-            println!("    {smallest}");
-        }
-        failed += usize::from(!t.differences.is_empty() || t.by_rule != alike || alike == 0);
-    }
+    let tallies = total.into_inner().unwrap();
+    let failed = CASES.iter().zip(&tallies).filter(|(name, tally)| !passed(name, tally)).count();
     println!("{} passed, {failed} failed", CASES.len() - failed);
     failed == 0
+}
+
+// Prints what was counted, and answers whether all grids are alike and its rule explains each mask that it chose.
+fn passed(name: &str, t: &Tally) -> bool {
+    let alike = t.cases - t.differences.len() as u64;
+    println!(
+        "{name}: {alike} grids alike, {} differ; {} versions; {} lists did not fit and were left out",
+        t.differences.len(),
+        t.versions.count_ones(),
+        t.skipped
+    );
+    println!(
+        "    masks that it chose: {:?}; {} times another than ours; by its own rule {} times",
+        t.masks, t.other_choice, t.by_rule
+    );
+    println!(
+        "    a larger version than needed {} times; ECI numbers from 16,384 on in its own form {} times",
+        t.larger, t.long_eci
+    );
+    if let Some(smallest) = t.differences.iter().min_by_key(|d| d.len()) {
+        println!("    {smallest}");
+    }
+    t.differences.is_empty() && t.by_rule == alike && alike > 0
 }
 
 enum Result {
@@ -155,16 +169,18 @@ fn note(tally: &mut Tally, result: Result, case: &Case, v: u8) {
         }
         Result::Differs(why) => {
             tally.cases += 1;
-            tally.differences.push(format!("{why}: version {v}, level {}, records {:?}, text {:?}", case.level, case.records, case.text));
+            tally.differences.push(format!(
+                "{why}: version {v}, level {}, records {:?}, text {:?}",
+                case.level, case.records, case.text
+            ));
         }
     }
 }
 
-// Draws one list by both, at the version that it takes: it counts an ECI header too long, so a list that has one and nearly
-// fills its version may get a larger one.
+// Draws one list by both, at the version that it takes: a list that has an ECI header and nearly fills its version may get
+// a larger one from it.
 fn one(case: &Case, v: u8) -> Result {
-    let (mut grid, mut scratch) = (vec![0; GRID], vec![0; SCRATCH]);
-    if raw::encode_segments(&case.text, &case.records, case.level, v, v, 0, false, &mut grid, &mut scratch).number != 0 {
+    if drawn(case, v, 0, false).0.number != 0 {
         return Result::Skipped;
     }
     let Some((version, theirs)) = draw(&case.text, &case.records, v, case.level) else {
@@ -176,27 +192,30 @@ fn one(case: &Case, v: u8) -> Result {
     }
     let mask = mask_of(&theirs, n);
     let long_eci = case.records.iter().any(|r| r.kind == 3 && r.assign >= 16_384);
-    let data = families::data_codewords(case, version, its_form);
-    let mut draw = |mask| {
-        let answer = if long_eci {
-            raw::encode_codewords(version, case.level, &data, mask, &mut grid, &mut scratch)
-        } else {
-            raw::encode_segments(&case.text, &case.records, case.level, version, version, mask, false, &mut grid, &mut scratch)
-        };
-        (answer, grid[..n * n].to_vec())
-    };
-    let (answer, drawn) = draw(mask);
-    if answer.number == 0 && drawn == theirs {
-        let chosen = draw(raw::MASK_AUTO).0.mask;
-        let by_rule = its_choice(|m| draw(m).1, n) == mask;
-        return Result::Alike { version, mask, chosen, by_rule, long_eci };
+    let (answer, ours) = drawn(case, version, mask, long_eci);
+    if answer.number != 0 || ours != theirs {
+        return Result::Differs(format!("grids differ at mask {mask}"));
     }
-    Result::Differs(format!("grids differ at mask {mask}"))
+    let chosen = drawn(case, version, raw::MASK_AUTO, long_eci).0.mask;
+    let by_rule = its_choice(|m| drawn(case, version, m, long_eci).1, n) == mask;
+    Result::Alike { version, mask, chosen, by_rule, long_eci }
+}
+
+// The port's drawing of a list; with `its_form`, of the codewords that the list has in libqrencode's form.
+fn drawn(case: &Case, v: u8, mask: u8, its_form: bool) -> (raw::Answer, Vec<u8>) {
+    let (mut grid, mut scratch) = (vec![0; side(v) * side(v)], vec![0; SCRATCH]);
+    let answer = if its_form {
+        let data = families::data_codewords(case, v, its_number);
+        raw::encode_codewords(v, case.level, &data, mask, &mut grid, &mut scratch)
+    } else {
+        raw::encode_segments(&case.text, &case.records, case.level, v, v, mask, false, &mut grid, &mut scratch)
+    };
+    (answer, grid)
 }
 
 // Its form of an ECI number: from 16,384 on it puts 0C0000 (hex) for C00000, so the number is not the one asked for.
 // Such a list is compared by codewords of that form, which shows that nothing else differs.
-fn its_form(number: u64) -> (u64, usize) {
+fn its_number(number: u64) -> (u64, usize) {
     match number {
         0..=127 => (number, 8),
         128..=16_383 => (0x8000 + number, 16),

@@ -26,9 +26,21 @@ pub enum Fault {
 }
 
 pub const FAULTS: [Fault; 15] = [
-    Fault::Module, Fault::Version, Fault::Detail, Fault::ScratchLeft, Fault::BehindGrid, Fault::BehindScratch,
-    Fault::RefusedWrites, Fault::ReadByte, Fault::ReadStart, Fault::ReadDetail, Fault::ReadAccepts, Fault::BehindText,
-    Fault::BehindRecords, Fault::ReadScratch, Fault::Outside,
+    Fault::Module,
+    Fault::Version,
+    Fault::Detail,
+    Fault::ScratchLeft,
+    Fault::BehindGrid,
+    Fault::BehindScratch,
+    Fault::RefusedWrites,
+    Fault::ReadByte,
+    Fault::ReadStart,
+    Fault::ReadDetail,
+    Fault::ReadAccepts,
+    Fault::BehindText,
+    Fault::BehindRecords,
+    Fault::ReadScratch,
+    Fault::Outside,
 ];
 
 /// What was seen in a case: the encoder's refusal or the version, and the reader's refusal where it was asked.
@@ -80,30 +92,36 @@ impl Worker {
         self.grid[..lent + BEHIND].copy_from_slice(&self.pattern[..lent + BEHIND]);
         self.scratch[..case.scratch + BEHIND].copy_from_slice(&self.pattern[..case.scratch + BEHIND]);
         let answer = self.encode(case, lent)?;
-        let expected = match expected {
-            Expected::Drawn { .. } if lent < area => Expected::Refused(8, area as u64, 0),
-            Expected::Drawn { .. } if case.scratch < SCRATCH => Expected::Refused(9, SCRATCH as u64, 0),
-            other => other,
+        let refused = match &expected {
+            Expected::Refused(number, first, second) => Some((*number, *first, *second)),
+            _ if lent < area => Some((8, area as u64, 0)),
+            _ if case.scratch < SCRATCH => Some((9, SCRATCH as u64, 0)),
+            _ => None,
         };
-        match expected {
-            Expected::Refused(number, first, second) => {
-                same("answer", &answer, &Answer { number, first, second, ..Answer::default() })?;
-                self.kept("grid", &self.grid, 0, lent)?;
-                self.kept("scratch", &self.scratch, 0, case.scratch)?;
-                Ok(Seen { number, version: 0, read: None })
-            }
-            Expected::Drawn { version, level, mask, modules, label } => {
-                same("answer", &answer, &Answer { number: 0, version, level, mask, first: 0, second: 0 })?;
-                if let Some(i) = (0..area).find(|&i| self.grid[i] != modules[i]) {
-                    return Err(format!("module in column {}, row {}: {} for {}", i % side(version), i / side(version), self.grid[i], modules[i]));
-                }
-                self.kept("grid", &self.grid, area, lent)?;
-                self.cleared(case.scratch)?;
-                self.ask_modules(&modules, version)?;
-                let read = self.read(case, modules, version, label.as_ref())?;
-                Ok(Seen { number: 0, version, read: Some(read) })
-            }
+        if let Some((number, first, second)) = refused {
+            same("answer", &answer, &Answer { number, first, second, ..Answer::default() })?;
+            self.kept("grid", &self.grid, 0, lent)?;
+            self.kept("scratch", &self.scratch, 0, case.scratch)?;
+            return Ok(Seen { number, version: 0, read: None });
         }
+        self.drawn(case, expected, answer, lent)
+    }
+
+    // Holds an accepted call to what was expected of it, and reads its label back.
+    fn drawn(&mut self, case: &Case, expected: Expected, answer: Answer, lent: usize) -> Result<Seen, String> {
+        let Expected::Drawn { version, level, mask, modules, label } = expected else {
+            return Err("a refusal was expected".into());
+        };
+        same("answer", &answer, &Answer { number: 0, version, level, mask, first: 0, second: 0 })?;
+        let n = side(version);
+        if let Some(i) = (0..n * n).find(|&i| self.grid[i] != modules[i]) {
+            return Err(format!("module in column {}, row {}: {} for {}", i % n, i / n, self.grid[i], modules[i]));
+        }
+        self.kept("grid", &self.grid, n * n, lent)?;
+        self.cleared(case.scratch)?;
+        self.ask_modules(&modules, version)?;
+        let read = self.read(case, modules, version, label.as_ref())?;
+        Ok(Seen { number: 0, version, read: Some(read) })
     }
 
     // Calls the port with the lent parts; text and records must stay as they are.
@@ -111,9 +129,15 @@ impl Worker {
         let (text, records) = (case.text.clone(), case.records.clone());
         let (grid, scratch) = (&mut self.grid[..lent], &mut self.scratch[..case.scratch]);
         let mut answer = match case.entry {
-            Entry::Text => raw::encode_text(&text, case.level, case.first, case.last, case.mask, case.boost, grid, scratch),
-            Entry::Binary => raw::encode_binary(&text, case.level, case.first, case.last, case.mask, case.boost, grid, scratch),
-            Entry::Segments => raw::encode_segments(&text, &records, case.level, case.first, case.last, case.mask, case.boost, grid, scratch),
+            Entry::Text => {
+                raw::encode_text(&text, case.level, case.first, case.last, case.mask, case.boost, grid, scratch)
+            }
+            Entry::Binary => {
+                raw::encode_binary(&text, case.level, case.first, case.last, case.mask, case.boost, grid, scratch)
+            }
+            Entry::Segments => raw::encode_segments(
+                &text, &records, case.level, case.first, case.last, case.mask, case.boost, grid, scratch,
+            ),
             Entry::Codewords => raw::encode_codewords(case.first, case.level, &text, case.mask, grid, scratch),
         };
         if text != case.text || records != case.records {
@@ -155,14 +179,27 @@ impl Worker {
     fn ask_modules(&mut self, modules: &[u8], version: u8) -> Result<(), String> {
         let n = side(version);
         let end = n as i32;
-        let places = [(-1, 0), (0, -1), (end, 0), (0, end), (end - 1, end - 1), (i32::MIN, i32::MAX), (i32::MAX, 0), (8, end - 8), (end / 2, end - 3), (n as i32 / 3, 9)];
+        let places = [
+            (-1, 0),
+            (0, -1),
+            (end, 0),
+            (0, end),
+            (end - 1, end - 1),
+            (i32::MIN, i32::MAX),
+            (i32::MAX, 0),
+            (8, end - 8),
+            (end / 2, end - 3),
+            (n as i32 / 3, 9),
+        ];
         for (x, y) in places {
             let inside = (0..end).contains(&x) && (0..end).contains(&y);
             let dark = inside && modules[y as usize * n + x as usize] == 1;
             let told = raw::get_module(modules, n, x, y) ^ (self.fault == Fault::Outside && x == end);
             same(&format!("module asked for in column {x}, row {y}"), &told, &dark)?;
         }
-        for (grid, size) in [(modules, n + 1), (&modules[..n * n - 1], n), (modules, 0), (modules, 17), (modules, usize::MAX)] {
+        for (grid, size) in
+            [(modules, n + 1), (&modules[..n * n - 1], n), (modules, 0), (modules, 17), (modules, usize::MAX)]
+        {
             same("module of a grid that is none", &raw::get_module(grid, size, 0, 0), &false)?;
         }
         Ok(())
@@ -193,7 +230,8 @@ impl Worker {
     // Calls the reader with the lent parts.
     fn call_read(&mut self, grid: &[u8], size: usize, text: usize, records: usize, scratch: usize) -> raw::Reading {
         let before = grid.to_vec();
-        let mut told = raw::read(grid, size, &mut self.text[..text], &mut self.records[..records], &mut self.scratch[..scratch]);
+        let mut told =
+            raw::read(grid, size, &mut self.text[..text], &mut self.records[..records], &mut self.scratch[..scratch]);
         if before != grid {
             told.number = u32::MAX; // no number of a refusal: the reader wrote to the grid
         }
@@ -212,9 +250,25 @@ impl Worker {
     }
 
     // Holds a reading and the buffers to what is expected; answers the refusal's number.
-    fn hold(&self, told: raw::Reading, expected: Result<&Label, (u32, u64)>, text: usize, records: usize, scratch: usize) -> Result<u32, String> {
+    fn hold(
+        &self,
+        told: raw::Reading,
+        expected: Result<&Label, (u32, u64)>,
+        text: usize,
+        records: usize,
+        scratch: usize,
+    ) -> Result<u32, String> {
         let wanted = match expected {
-            Ok(l) => raw::Reading { number: 0, version: l.version, level: l.level, mask: l.mask, records: l.records.len() as u64, text: l.text.len() as u64, first: 0, second: 0 },
+            Ok(l) => raw::Reading {
+                number: 0,
+                version: l.version,
+                level: l.level,
+                mask: l.mask,
+                records: l.records.len() as u64,
+                text: l.text.len() as u64,
+                first: 0,
+                second: 0,
+            },
             Err((number, first)) => raw::Reading { number, first, ..raw::Reading::default() },
         };
         same("reading", &told, &wanted)?;
@@ -243,7 +297,12 @@ fn same<T: PartialEq + std::fmt::Debug>(what: &str, told: &T, expected: &T) -> R
 /// Runs a case of the original's domain through the Rust crate's own names.
 pub fn run_bindings(case: &Case) -> Result<Seen, String> {
     let expected = model::answer(case);
-    let ecl = [gatemurmur::QrCodeEcc::Low, gatemurmur::QrCodeEcc::Medium, gatemurmur::QrCodeEcc::Quartile, gatemurmur::QrCodeEcc::High][usize::from(case.level)];
+    let ecl = [
+        gatemurmur::QrCodeEcc::Low,
+        gatemurmur::QrCodeEcc::Medium,
+        gatemurmur::QrCodeEcc::Quartile,
+        gatemurmur::QrCodeEcc::High,
+    ][usize::from(case.level)];
     let (first, last) = (gatemurmur::Version::new(case.first), gatemurmur::Version::new(case.last));
     let mask = (case.mask < 8).then(|| gatemurmur::Mask::new(case.mask));
     let result = match case.entry {
@@ -251,25 +310,34 @@ pub fn run_bindings(case: &Case) -> Result<Seen, String> {
         _ => gatemurmur::QrCode::encode_segments_advanced(&bound_segments(case)?, ecl, first, last, mask, case.boost),
     };
     match (expected, result) {
-        (Expected::Refused(6, ..), Err(gatemurmur::DataTooLong::SegmentTooLong)) => Ok(Seen { number: 6, version: 0, read: None }),
+        (Expected::Refused(6, ..), Err(gatemurmur::DataTooLong::SegmentTooLong)) => {
+            Ok(Seen { number: 6, version: 0, read: None })
+        }
         (Expected::Refused(7, a, b), Err(gatemurmur::DataTooLong::DataOverCapacity(bits, capacity))) => {
             same("details", &(bits as u64, capacity as u64), &(a, b))?;
             Ok(Seen { number: 7, version: 0, read: None })
         }
         (Expected::Drawn { version, level, mask, modules, label }, Ok(qr)) => {
-            same("label", &(qr.version().value(), qr.error_correction_level() as u8, qr.mask().value()), &(version, level, mask))?;
-            let n = qr.size();
-            same("size", &n, &(side(version) as i32))?;
-            for i in 0..(n + 2) * (n + 2) {
-                let (x, y) = (i % (n + 2) - 1, i / (n + 2) - 1);
-                let inside = (0..n).contains(&x) && (0..n).contains(&y);
-                same("module", &qr.get_module(x, y), &(inside && modules[(y * n + x) as usize] == 1))?;
-            }
+            let told = (qr.version().value(), qr.error_correction_level() as u8, qr.mask().value());
+            same("label", &told, &(version, level, mask))?;
+            same("size", &qr.size(), &(side(version) as i32))?;
+            bound_modules(&qr, &modules)?;
             read_bound(&qr, label)
         }
         (Expected::Refused(number, ..), _) => Err(format!("refusal {number} was expected")),
         (_, Err(e)) => Err(format!("a label was expected: {e}")),
     }
+}
+
+// Every module, and a border of one around them.
+fn bound_modules(qr: &gatemurmur::QrCode, modules: &[u8]) -> Result<(), String> {
+    let n = qr.size();
+    for i in 0..(n + 2) * (n + 2) {
+        let (x, y) = (i % (n + 2) - 1, i / (n + 2) - 1);
+        let inside = (0..n).contains(&x) && (0..n).contains(&y);
+        same("module", &qr.get_module(x, y), &(inside && modules[(y * n + x) as usize] == 1))?;
+    }
+    Ok(())
 }
 
 // The crate's segments of a call; its own text rule for the text entry.
@@ -303,10 +371,16 @@ fn read_bound(qr: &gatemurmur::QrCode, label: Option<Label>) -> Result<Seen, Str
         }
         (Ok(l), Some(wanted)) => {
             same("text read", &l.text, &wanted.text)?;
-            let kinds: Vec<(u64, usize, u32)> = l.segments.iter().map(|s| (s.mode() as u64, s.num_chars(), s.eci().unwrap_or(0))).collect();
-            let records: Vec<(u64, usize, u32)> = wanted.records.iter().map(|r| (r.kind, r.length as usize, r.assign as u32)).collect();
+            let kinds: Vec<(u64, usize, u32)> =
+                l.segments.iter().map(|s| (s.mode() as u64, s.num_chars(), s.eci().unwrap_or(0))).collect();
+            let records: Vec<(u64, usize, u32)> =
+                wanted.records.iter().map(|r| (r.kind, r.length as usize, r.assign as u32)).collect();
             same("segments read", &kinds, &records)?;
-            same("label read", &(l.version, l.error_correction_level, l.mask), &(qr.version(), qr.error_correction_level(), qr.mask()))?;
+            same(
+                "label read",
+                &(l.version, l.error_correction_level, l.mask),
+                &(qr.version(), qr.error_correction_level(), qr.mask()),
+            )?;
             0
         }
         (Err(e), Some(_)) => return Err(format!("not read: {e}")),

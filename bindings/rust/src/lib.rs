@@ -114,8 +114,12 @@ impl QrCode {
     ///
     /// Panics if `minversion` is above `maxversion` or there are more than 2,048 segments.
     pub fn encode_segments_advanced(
-        segs: &[QrSegment], ecl: QrCodeEcc,
-        minversion: Version, maxversion: Version, mask: Option<Mask>, boostecl: bool,
+        segs: &[QrSegment],
+        ecl: QrCodeEcc,
+        minversion: Version,
+        maxversion: Version,
+        mask: Option<Mask>,
+        boostecl: bool,
     ) -> Result<Self, DataTooLong> {
         too_long(QrCode::try_encode_segments(segs, ecl, minversion, maxversion, mask, boostecl))
     }
@@ -133,8 +137,12 @@ impl QrCode {
 
     /// The text entry with all parameters; any bytes are accepted.
     pub fn try_encode_text(
-        text: &[u8], ecl: QrCodeEcc,
-        minversion: Version, maxversion: Version, mask: Option<Mask>, boostecl: bool,
+        text: &[u8],
+        ecl: QrCodeEcc,
+        minversion: Version,
+        maxversion: Version,
+        mask: Option<Mask>,
+        boostecl: bool,
     ) -> Result<Self, Refusal> {
         drawn(maxversion, |grid, scratch| {
             raw::encode_text(text, ecl.ordinal(), minversion.0, maxversion.0, number(mask), boostecl, grid, scratch)
@@ -143,8 +151,12 @@ impl QrCode {
 
     /// The byte entry with all parameters.
     pub fn try_encode_binary(
-        data: &[u8], ecl: QrCodeEcc,
-        minversion: Version, maxversion: Version, mask: Option<Mask>, boostecl: bool,
+        data: &[u8],
+        ecl: QrCodeEcc,
+        minversion: Version,
+        maxversion: Version,
+        mask: Option<Mask>,
+        boostecl: bool,
     ) -> Result<Self, Refusal> {
         drawn(maxversion, |grid, scratch| {
             raw::encode_binary(data, ecl.ordinal(), minversion.0, maxversion.0, number(mask), boostecl, grid, scratch)
@@ -153,20 +165,35 @@ impl QrCode {
 
     /// The entry of segment lists.
     pub fn try_encode_segments(
-        segs: &[QrSegment], ecl: QrCodeEcc,
-        minversion: Version, maxversion: Version, mask: Option<Mask>, boostecl: bool,
+        segs: &[QrSegment],
+        ecl: QrCodeEcc,
+        minversion: Version,
+        maxversion: Version,
+        mask: Option<Mask>,
+        boostecl: bool,
     ) -> Result<Self, Refusal> {
         let (text, records) = joined(segs);
         drawn(maxversion, |grid, scratch| {
             raw::encode_segments(
-                &text, &records, ecl.ordinal(), minversion.0, maxversion.0, number(mask), boostecl, grid, scratch,
+                &text,
+                &records,
+                ecl.ordinal(),
+                minversion.0,
+                maxversion.0,
+                number(mask),
+                boostecl,
+                grid,
+                scratch,
             )
         })
     }
 
     /// The entry of data codewords.
     pub fn try_encode_codewords(
-        ver: Version, ecl: QrCodeEcc, datacodewords: &[u8], msk: Option<Mask>,
+        ver: Version,
+        ecl: QrCodeEcc,
+        datacodewords: &[u8],
+        msk: Option<Mask>,
     ) -> Result<Self, Refusal> {
         drawn(ver, |grid, scratch| {
             raw::encode_codewords(ver.0, ecl.ordinal(), datacodewords, number(msk), grid, scratch)

@@ -53,43 +53,73 @@ pub const MASK_AUTO: u8 = 8;
 // A slice is two parameters in C, the pointer and the length. Records go as numbers, four to a record.
 extern "C" {
     fn gatemurmur_encode_text(
-        text: *const u8, text_length: usize,
-        level: u8, minversion: u8, maxversion: u8, mask: u8, boostecl: bool,
-        grid: *mut u8, grid_length: usize,
-        scratch: *mut u8, scratch_length: usize,
+        text: *const u8,
+        text_length: usize,
+        level: u8,
+        minversion: u8,
+        maxversion: u8,
+        mask: u8,
+        boostecl: bool,
+        grid: *mut u8,
+        grid_length: usize,
+        scratch: *mut u8,
+        scratch_length: usize,
     ) -> Answer;
 
     fn gatemurmur_encode_binary(
-        data: *const u8, data_length: usize,
-        level: u8, minversion: u8, maxversion: u8, mask: u8, boostecl: bool,
-        grid: *mut u8, grid_length: usize,
-        scratch: *mut u8, scratch_length: usize,
+        data: *const u8,
+        data_length: usize,
+        level: u8,
+        minversion: u8,
+        maxversion: u8,
+        mask: u8,
+        boostecl: bool,
+        grid: *mut u8,
+        grid_length: usize,
+        scratch: *mut u8,
+        scratch_length: usize,
     ) -> Answer;
 
     fn gatemurmur_encode_segments(
-        text: *const u8, text_length: usize,
-        records: *const u64, records_length: usize,
-        level: u8, minversion: u8, maxversion: u8, mask: u8, boostecl: bool,
-        grid: *mut u8, grid_length: usize,
-        scratch: *mut u8, scratch_length: usize,
+        text: *const u8,
+        text_length: usize,
+        records: *const u64,
+        records_length: usize,
+        level: u8,
+        minversion: u8,
+        maxversion: u8,
+        mask: u8,
+        boostecl: bool,
+        grid: *mut u8,
+        grid_length: usize,
+        scratch: *mut u8,
+        scratch_length: usize,
     ) -> Answer;
 
     fn gatemurmur_encode_codewords(
-        version: u8, level: u8,
-        data: *const u8, data_length: usize,
+        version: u8,
+        level: u8,
+        data: *const u8,
+        data_length: usize,
         mask: u8,
-        grid: *mut u8, grid_length: usize,
-        scratch: *mut u8, scratch_length: usize,
+        grid: *mut u8,
+        grid_length: usize,
+        scratch: *mut u8,
+        scratch_length: usize,
     ) -> Answer;
 
     fn gatemurmur_get_module(grid: *const u8, grid_length: usize, size: usize, x: i32, y: i32) -> bool;
 
     fn gatemurmur_read(
-        grid: *const u8, grid_length: usize,
+        grid: *const u8,
+        grid_length: usize,
         size: usize,
-        text: *mut u8, text_length: usize,
-        records: *mut u64, records_length: usize,
-        scratch: *mut u8, scratch_length: usize,
+        text: *mut u8,
+        text_length: usize,
+        records: *mut u64,
+        records_length: usize,
+        scratch: *mut u8,
+        scratch_length: usize,
     ) -> Reading;
 }
 
@@ -99,14 +129,29 @@ const NUMBERS: usize = 4;
 /// Draws a label of a text, any bytes, in the kind that the text rule gives it.
 #[allow(clippy::too_many_arguments)]
 pub fn encode_text(
-    text: &[u8], level: u8, minversion: u8, maxversion: u8, mask: u8, boostecl: bool,
-    grid: &mut [u8], scratch: &mut [u8],
+    text: &[u8],
+    level: u8,
+    minversion: u8,
+    maxversion: u8,
+    mask: u8,
+    boostecl: bool,
+    grid: &mut [u8],
+    scratch: &mut [u8],
 ) -> Answer {
     // Safety, here and below: each pointer comes with its slice's own length, and a slice that is written is no other's.
     unsafe {
         gatemurmur_encode_text(
-            text.as_ptr(), text.len(), level, minversion, maxversion, mask, boostecl,
-            grid.as_mut_ptr(), grid.len(), scratch.as_mut_ptr(), scratch.len(),
+            text.as_ptr(),
+            text.len(),
+            level,
+            minversion,
+            maxversion,
+            mask,
+            boostecl,
+            grid.as_mut_ptr(),
+            grid.len(),
+            scratch.as_mut_ptr(),
+            scratch.len(),
         )
     }
 }
@@ -114,13 +159,28 @@ pub fn encode_text(
 /// Draws a label of binary data, as one Byte segment.
 #[allow(clippy::too_many_arguments)]
 pub fn encode_binary(
-    data: &[u8], level: u8, minversion: u8, maxversion: u8, mask: u8, boostecl: bool,
-    grid: &mut [u8], scratch: &mut [u8],
+    data: &[u8],
+    level: u8,
+    minversion: u8,
+    maxversion: u8,
+    mask: u8,
+    boostecl: bool,
+    grid: &mut [u8],
+    scratch: &mut [u8],
 ) -> Answer {
     unsafe {
         gatemurmur_encode_binary(
-            data.as_ptr(), data.len(), level, minversion, maxversion, mask, boostecl,
-            grid.as_mut_ptr(), grid.len(), scratch.as_mut_ptr(), scratch.len(),
+            data.as_ptr(),
+            data.len(),
+            level,
+            minversion,
+            maxversion,
+            mask,
+            boostecl,
+            grid.as_mut_ptr(),
+            grid.len(),
+            scratch.as_mut_ptr(),
+            scratch.len(),
         )
     }
 }
@@ -128,26 +188,48 @@ pub fn encode_binary(
 /// Draws a label of a list of records over one text.
 #[allow(clippy::too_many_arguments)]
 pub fn encode_segments(
-    text: &[u8], records: &[Record], level: u8, minversion: u8, maxversion: u8, mask: u8, boostecl: bool,
-    grid: &mut [u8], scratch: &mut [u8],
+    text: &[u8],
+    records: &[Record],
+    level: u8,
+    minversion: u8,
+    maxversion: u8,
+    mask: u8,
+    boostecl: bool,
+    grid: &mut [u8],
+    scratch: &mut [u8],
 ) -> Answer {
     unsafe {
         gatemurmur_encode_segments(
-            text.as_ptr(), text.len(), records.as_ptr().cast(), records.len() * NUMBERS,
-            level, minversion, maxversion, mask, boostecl,
-            grid.as_mut_ptr(), grid.len(), scratch.as_mut_ptr(), scratch.len(),
+            text.as_ptr(),
+            text.len(),
+            records.as_ptr().cast(),
+            records.len() * NUMBERS,
+            level,
+            minversion,
+            maxversion,
+            mask,
+            boostecl,
+            grid.as_mut_ptr(),
+            grid.len(),
+            scratch.as_mut_ptr(),
+            scratch.len(),
         )
     }
 }
 
 /// Draws a label of data codewords.
-pub fn encode_codewords(
-    version: u8, level: u8, data: &[u8], mask: u8, grid: &mut [u8], scratch: &mut [u8],
-) -> Answer {
+pub fn encode_codewords(version: u8, level: u8, data: &[u8], mask: u8, grid: &mut [u8], scratch: &mut [u8]) -> Answer {
     unsafe {
         gatemurmur_encode_codewords(
-            version, level, data.as_ptr(), data.len(), mask,
-            grid.as_mut_ptr(), grid.len(), scratch.as_mut_ptr(), scratch.len(),
+            version,
+            level,
+            data.as_ptr(),
+            data.len(),
+            mask,
+            grid.as_mut_ptr(),
+            grid.len(),
+            scratch.as_mut_ptr(),
+            scratch.len(),
         )
     }
 }
@@ -161,9 +243,15 @@ pub fn get_module(grid: &[u8], size: usize, x: i32, y: i32) -> bool {
 pub fn read(grid: &[u8], size: usize, text: &mut [u8], records: &mut [Record], scratch: &mut [u8]) -> Reading {
     unsafe {
         gatemurmur_read(
-            grid.as_ptr(), grid.len(), size, text.as_mut_ptr(), text.len(),
-            records.as_mut_ptr().cast(), records.len() * NUMBERS,
-            scratch.as_mut_ptr(), scratch.len(),
+            grid.as_ptr(),
+            grid.len(),
+            size,
+            text.as_mut_ptr(),
+            text.len(),
+            records.as_mut_ptr().cast(),
+            records.len() * NUMBERS,
+            scratch.as_mut_ptr(),
+            scratch.len(),
         )
     }
 }

@@ -40,7 +40,12 @@ fn published_example() {
 
 #[test]
 fn read_back() {
-    let segs = [QrSegment::make_eci(26), QrSegment::make_alphanumeric("AC-42"), QrSegment::make_numeric(""), QrSegment::make_bytes(b"dB")];
+    let segs = [
+        QrSegment::make_eci(26),
+        QrSegment::make_alphanumeric("AC-42"),
+        QrSegment::make_numeric(""),
+        QrSegment::make_bytes(b"dB"),
+    ];
     let qr = QrCode::encode_segments(&segs, QrCodeEcc::Quartile).unwrap();
     let label = read(qr.modules(), qr.size() as usize).unwrap();
     assert_eq!(label.segments, segs);
