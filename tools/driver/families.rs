@@ -57,9 +57,9 @@ pub fn families(count: u64) -> Vec<Family> {
 // A version, small ones more often: a large label takes a hundred times as long.
 fn some_version(r: &mut Random) -> u8 {
     (match r.below(100) {
-        0..=79 => r.within(1, 3),
-        80..=94 => r.within(4, 9),
-        95..=97 => r.within(10, 26),
+        0..=83 => r.within(1, 3),
+        84..=96 => r.within(4, 9),
+        97..=98 => r.within(10, 26),
         _ => r.within(1, 40),
     }) as u8
 }
