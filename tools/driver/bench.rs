@@ -1,0 +1,142 @@
+//! Times of the port, of the Rust original and of libqrencode, measured in one run: the best of nine rounds of each.
+use crate::model::{mask, LEVELS};
+use gatemurmur::raw::{self, Record, GRID, MASK_AUTO, SCRATCH, TEXT};
+use qrcodegen::{QrCode, QrSegment, Version};
+use std::hint::black_box;
+use std::time::Instant;
+
+const ROUNDS: usize = 9;
+/// A round lasts at least as long, in nanoseconds.
+const ROUND: u128 = 30_000_000;
+
+struct Row {
+    name: &'static str,
+    text: Vec<u8>,
+    kind: u64,
+    mask: u8,
+}
+
+fn rows() -> Vec<Row> {
+    let bytes = |n: usize| (0..n).map(|i| (i * 97 + i / 7) as u8).collect::<Vec<u8>>();
+    let digits: Vec<u8> = (0..7089).map(|i| b'0' + ((i * 7 + i / 11) % 10) as u8).collect();
+    let mut all = Vec::new();
+    for (name, fixed, text, kind) in [
+        ("39 bytes, automatic mask", "39 bytes, mask 3", bytes(39), 2),
+        ("200 bytes, automatic mask", "200 bytes, mask 3", bytes(200), 2),
+        ("2,900 bytes, automatic mask", "2,900 bytes, mask 3", bytes(2900), 2),
+        ("7,089 digits, automatic mask", "7,089 digits, mask 3", digits, 0),
+    ] {
+        all.push(Row { name, text: text.clone(), kind, mask: MASK_AUTO });
+        all.push(Row { name: fixed, text, kind, mask: 3 });
+    }
+    all
+}
+
+/// Measures and prints the table; true, as there is nothing here that fails.
+pub fn bench() -> bool {
+    println!(
+        "level Low, versions 1 to 40, no boost; best of {ROUNDS} rounds of at least {} ms each, in microseconds a call",
+        ROUND / 1_000_000
+    );
+    println!("The port draws in buffers that the caller lends and does not clear between calls; the call itself zeroes 40,000 bytes of scratch.");
+    println!("The original and libqrencode allocate and free in each call; the original's segments are made in the call, as the port's are.");
+    println!(
+        "{:30} {:>10} {:>10} {:>12} {:>12} {:>16}",
+        "", "port", "Rust", "port / Rust", "libqrencode", "port / libqrencode"
+    );
+    for row in rows() {
+        draw_row(&row);
+    }
+    println!();
+    println!("{:30} {:>10} {:>10} {:>12}", "", "reading", "drawing", "ratio");
+    for row in rows().iter().filter(|r| r.mask != MASK_AUTO) {
+        read_row(row);
+    }
+    true
+}
+
+// Best times of several things, in microseconds; rounds are taken in turn, so that a busy machine is fair to all.
+fn best(calls: &mut [&mut dyn FnMut()]) -> Vec<f64> {
+    let mut times = vec![f64::MAX; calls.len()];
+    for _ in 0..ROUNDS {
+        for (time, call) in times.iter_mut().zip(calls.iter_mut()) {
+            let (start, mut n) = (Instant::now(), 0u32);
+            while start.elapsed().as_nanos() < ROUND || n < 3 {
+                call();
+                n += 1;
+            }
+            *time = time.min(start.elapsed().as_nanos() as f64 / 1000.0 / f64::from(n));
+        }
+    }
+    times
+}
+
+fn draw_row(row: &Row) {
+    let (mut grid, mut scratch) = (vec![0; GRID], vec![0; SCRATCH]);
+    let records = [Record { kind: row.kind, start: 0, length: row.text.len() as u64, assign: 0 }];
+    let mut port = || {
+        let answer =
+            raw::encode_segments(black_box(&row.text), &records, 0, 1, 40, row.mask, false, &mut grid, &mut scratch);
+        assert_eq!(black_box(answer).number, 0);
+    };
+    let mut rust = || {
+        let text = black_box(&row.text);
+        let seg = if row.kind == 0 {
+            QrSegment::make_numeric(std::str::from_utf8(text).unwrap())
+        } else {
+            QrSegment::make_bytes(text)
+        };
+        let qr = QrCode::encode_segments_advanced(&[seg], LEVELS[0], Version::MIN, Version::MAX, mask(row.mask), false);
+        assert!(black_box(qr).is_ok());
+    };
+    let (times, other) = measure(row, &records, &mut port, &mut rust);
+    println!(
+        "{:30} {:10.1} {:10.1} {:12.2} {:>12} {:>16}",
+        row.name,
+        times[0],
+        times[1],
+        times[0] / times[1],
+        told(other, 1),
+        told(other.map(|t| times[0] / t), 2)
+    );
+}
+
+fn told(number: Option<f64>, places: usize) -> String {
+    number.map_or("–".into(), |n| format!("{n:.places$}"))
+}
+
+// Port and original, and libqrencode where it is there; it has no call for a fixed mask.
+#[cfg(qrencode)]
+fn measure(row: &Row, records: &[Record], port: &mut dyn FnMut(), rust: &mut dyn FnMut()) -> (Vec<f64>, Option<f64>) {
+    if row.mask != MASK_AUTO {
+        return (best(&mut [port, rust]), None);
+    }
+    let mut other = || assert!(black_box(crate::qrencode::draw(black_box(&row.text), records, 0, 0)).is_some());
+    let times = best(&mut [port, rust, &mut other]);
+    let third = times[2];
+    (times, Some(third))
+}
+
+#[cfg(not(qrencode))]
+fn measure(_: &Row, _: &[Record], port: &mut dyn FnMut(), rust: &mut dyn FnMut()) -> (Vec<f64>, Option<f64>) {
+    (best(&mut [port, rust]), None)
+}
+
+// The strict reader beside the drawing of the same label with its mask fixed.
+fn read_row(row: &Row) {
+    let (mut grid, mut scratch, mut again) = (vec![0; GRID], vec![0; SCRATCH], vec![0; SCRATCH]);
+    let records = [Record { kind: row.kind, start: 0, length: row.text.len() as u64, assign: 0 }];
+    let answer = raw::encode_segments(&row.text, &records, 0, 1, 40, row.mask, false, &mut grid, &mut scratch);
+    let size = 4 * usize::from(answer.version) + 17;
+    let drawn = grid[..size * size].to_vec();
+    let (mut text, mut list) = (vec![0; TEXT], vec![Record::default(); 4]);
+    let mut reading =
+        || assert_eq!(black_box(raw::read(black_box(&drawn), size, &mut text, &mut list, &mut scratch)).number, 0);
+    let mut drawing = || {
+        let answer =
+            raw::encode_segments(black_box(&row.text), &records, 0, 1, 40, row.mask, false, &mut grid, &mut again);
+        assert_eq!(black_box(answer).number, 0);
+    };
+    let times = best(&mut [&mut reading, &mut drawing]);
+    println!("{:30} {:10.1} {:10.1} {:12.2}", row.name, times[0], times[1], times[0] / times[1]);
+}
