@@ -5,6 +5,7 @@ use mathlib.Core.List.{List}
 use mathlib.Core.Path.{_≡_}
 use lib.ListN.{length}
 use Rattle.standard.specs.Sizes.{side}
+use Rattle.standard.specs.Segments.{Part}
 use Rattle.standard.specs.Plan.{refusal, Refusal as Numbered}
 use Rattle.types.specs.Numbers.{levelOf, IsVersion}
 use Rattle.reader.specs.declared.Refusal.{Refusal}
@@ -29,7 +30,7 @@ answerOf (Refused e) = unread (refusalOf e)
 answerOf (Label v l m n k) = readAs (v .0) (levelOf l) (m .0) n k
 
 -- the answer with the lent memory at the return
-abbrev pub readOf : Outcome → List ℕ → List ℕ → List ℕ → Read
+abbrev pub readOf : Outcome → List ℕ → List Part → List ℕ → Read
 readOf r text records scratch = record { answer = answerOf r; text = text; records = records; scratch = scratch }
 
 -- what the first checks say

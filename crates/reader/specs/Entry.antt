@@ -22,8 +22,10 @@ use Rattle.reader.specs.declared.Outcome.the-variants.{Refused}
 use Rattle.reader.specs.declared.Early.{Early}
 use Rattle.reader.specs.declared.Early.the-variants.{Fine, Refused as Stopped}
 use Rattle.reader.specs.Early.{above-none}
-use Rattle.standard.specs.Read.{Read, firstAbove, nothing, refusedBy, firstRefusal, Finds, Reads, refuses, looks}
+use Rattle.standard.specs.Read.{firstAbove, nothing, refusedBy, firstRefusal, Finds, refuses, looks}
+use Rattle.segments.specs.Records.{partsOf}
 use Rattle.reader.specs.Answers.{refusalOf, readOf, Checks}
+use Rattle.reader.specs.Numbers.{FindsNumbers, ReadsNumbers}
 use Rattle.reader.specs.Recovered.{raw-fits, data-fits, Looks}
 
 -- ---- parts of arrays
@@ -69,16 +71,17 @@ zeroed-all s w z n e small h q =
 pub zeroed-length : (s : List ℕ) → 40_000 ≤ length s → length (zeroed s) ≡ length s
 zeroed-length s h = length-append (replicate 40_000 0) (drop 40_000 s) ∙ omega (arith, length-replicate {A = ℕ} 40_000 0, length-drop 40_000 s)
 
-pub finds-zeroed : (g text records s t : List ℕ) (r : Outcome) (o q : List ℕ) → Looks g text records r o q → t ≡ zeroed s → Finds g text records (zeroed s) (readOf r o q t)
-finds-zeroed g text records s t r o q l e = subst (λ (z : List ℕ). Finds g text records (zeroed s) (readOf r o q z)) (sym e) (l .at (zeroed s))
+pub finds-zeroed : (g text records s t : List ℕ) (r : Outcome) (o q : List ℕ) → Looks g text records r o q → t ≡ zeroed s → FindsNumbers g text records (zeroed s) r o q t
+finds-zeroed g text records s t r o q l e =
+    record { finds = subst (λ (z : List ℕ). Finds g text (partsOf records) (zeroed s) (readOf r o (partsOf q) z)) (sym e) (l .at (zeroed s)); rest = l .rest }
 
 -- ---- the first checks
 
 module _ (g : List ℕ) (s : ℕ) (scratch : List ℕ) (e : Early) (is : Checks g s (length scratch) e) where
-  pub reads-refused : (text records : List ℕ) (f : Refusal) → e ≡ Stopped f → Reads g s text records scratch (readOf (Refused f) text records scratch)
+  pub reads-refused : (text records : List ℕ) (f : Refusal) → e ≡ Stopped f → ReadsNumbers g s text records scratch (Refused f) text records scratch
   reads-refused text records f was =
       let k : firstRefusal g s (length scratch) ≡ refusedBy (refusalOf f) = subst (Checks g s (length scratch)) was is in
-      refuses (refusalOf f) k refl
+      record { reads = refuses (refusalOf f) k refl; rest = refl }
 
   module _ (v : Version) (was : e ≡ Fine v) where
     fine : (firstRefusal g s (length scratch) ≡ nothing) × IsVersion v × (s ≡ side (v .0)) × (length g ≡ side (v .0) * side (v .0)) × (40_000 ≤ length scratch) × (length g ≤ firstAbove g)
@@ -96,5 +99,5 @@ module _ (g : List ℕ) (s : ℕ) (scratch : List ℕ) (e : Early) (is : Checks 
     pub fine-small : Small (v .0) g
     fine-small i h = above-none g (fine .5) i (omega (arith, fine .3))
 
-    pub reads-found : (text records : List ℕ) (out : Read) → Finds g text records (zeroed scratch) out → Reads g s text records scratch out
-    reads-found text records out f = looks (fine .0) f
+    pub reads-found : (text records : List ℕ) (r : Outcome) (o q z : List ℕ) → FindsNumbers g text records (zeroed scratch) r o q z → ReadsNumbers g s text records scratch r o q z
+    reads-found text records r o q z f = record { reads = looks (fine .0) (f .finds); rest = f .rest }

@@ -2,6 +2,7 @@ pub mod Labels
 pub mod Theorems
 pub mod Redraw
 pub mod Answers
+pub mod Numbers
 pub mod Told
 pub mod Early
 pub mod Recovered

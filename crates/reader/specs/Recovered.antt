@@ -9,7 +9,7 @@ use lib.ListN.{length}
 use borrow.Author.Tests.{eq-eqb}
 use Rattle.standard.specs.Numbers.{same}
 use Rattle.standard.specs.Sizes.{side, rawModules, rawCodewords, dataCodewords}
-use Rattle.standard.specs.Segments.{Segment}
+use Rattle.standard.specs.Segments.{Part, Segment}
 use Rattle.standard.specs.Codewords.{dataWords}
 use Rattle.standard.specs.Blocks.{allWords}
 use Rattle.standard.specs.Grid.{content, grid}
@@ -20,6 +20,7 @@ use Rattle.counts.specs.Ranges.{version-range, pair-range}
 use Rattle.types.specs.declared.QrCodeEcc.{QrCodeEcc}
 use Rattle.types.specs.Numbers.{levelOf}
 use Rattle.segments.specs.Words.{level-le}
+use Rattle.segments.specs.Records.{partsOf}
 use Rattle.blocks.specs.Places.{all-long}
 use Rattle.blocks.specs.Undo.{dataOf}
 use Rattle.blocks.specs.Theorems.{data-back}
@@ -31,12 +32,14 @@ use Rattle.reader.specs.declared.Outcome.the-variants.{Refused}
 use Rattle.reader.specs.declared.Refusal.the-variants.{NoLabel}
 use Rattle.standard.specs.Read.{Read, Finds, shown, none}
 use Rattle.reader.specs.Answers.{readOf}
+use Rattle.reader.specs.Numbers.{Rest}
 use Rattle.reader.specs.Labels.{Proper, proper, is-label, labelOf, codewordsOf, words-long, drawable, grid-length, side-of-square}
 use Rattle.reader.specs.Told.{Told, says, silent, Tells}
 
 -- what is returned for a grid, whatever scratch holds at the return
 pub record Looks (g text records : List ℕ) (r : Outcome) (o q : List ℕ) : Type 0 where
-  pub at : (z : List ℕ) → Finds g text records z (readOf r o q z)
+  pub at : (z : List ℕ) → Finds g text (partsOf records) z (readOf r o (partsOf q) z)
+  pub rest : Rest records q
 
 -- ---- sizes
 
@@ -120,12 +123,12 @@ module _ (v l m : ℕ) (g all d : List ℕ) (size : length g ≡ side v * side v
         true≢false t
 
     pub looks-none : (text records : List ℕ) → not r ≡ true → Looks g text records (Refused NoLabel) text records
-    looks-none text records f = record { at = λ z. none (never (not-eq f)) refl }
+    looks-none text records f = record { at = λ z. none (never (not-eq f)) refl; rest = refl }
       where
         not-eq : not r ≡ true → r ≡ false
         not-eq f = sym (not-not r) ∙ ap not f
 
-    finds-told : (text records z : List ℕ) (out : Read) → r ≡ true → 1 ≤ v → v ≤ 40 → l ≤ 3 → m ≤ 7 → Told v l m d text records z out → Finds g text records z out
+    finds-told : (text : List ℕ) (records : List Part) (z : List ℕ) (out : Read) → r ≡ true → 1 ≤ v → v ≤ 40 → l ≤ 3 → m ≤ 7 → Told v l m d text records z out → Finds g text records z out
     unfolding gridOf
     finds-told text records z out t low high hl hm (says ss e q) =
         let drawn : g ≡ grid v l m (content v (allWords v l d)) = same-eq g (grid v l m (content v (allWords v l d))) (true-T (same g (grid v l m (content v (allWords v l d)))) (sym again ∙ t)) in
@@ -146,4 +149,7 @@ module _ (v l m : ℕ) (g all d : List ℕ) (size : length g ≡ side v * side v
     pub looks-told : (ecl : QrCodeEcc) (text records : List ℕ) (out : Outcome) (o q : List ℕ) → Tells v l m d text records out o q → not r ≡ false → 1 ≤ v → v ≤ 40 → l ≡ levelOf ecl → m ≤ 7
         → Looks g text records out o q
     looks-told ecl text records out o q t f low high e hm =
-        record { at = λ z. finds-told text records z (readOf out o q z) (sym (not-not r) ∙ ap not f) low high (omega (arith, level-le ecl)) hm (t .at z) }
+        record {
+          at = λ z. finds-told text (partsOf records) z (readOf out o (partsOf q) z) (sym (not-not r) ∙ ap not f) low high (omega (arith, level-le ecl)) hm (t .at z);
+          rest = t .rest;
+        }

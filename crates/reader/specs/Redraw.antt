@@ -20,11 +20,8 @@ use Rattle.standard.specs.Encode.{zeroed, accept, drawn, draw, drawPlan, encode
 use Rattle.standard.specs.Label.{Label, gridOf, Shows}
 use Rattle.laws.specs.Tests.{T-true, and-left, and-right}
 use Rattle.parser.specs.Few.{few-records}
-use Rattle.parser.specs.Written.{numbersOf, numbers-length}
-use Rattle.parser.specs.Meaning.{parts-read}
-use Rattle.segments.specs.Records.{partsOf}
 use Rattle.parser.specs.Parts.{joined, partsFrom, parts-mean, parts-good}
-use Rattle.standard.specs.Read.{readAs, Read, characters, recordOf, recordsFrom, flat, written, Reads}
+use Rattle.standard.specs.Read.{readAs, Read, characters, recordOf, recordsFrom, written, Reads}
 use Rattle.reader.specs.Theorems.{Accepts, accepts-only}
 use Rattle.reader.specs.Labels.{Proper, proper, codewordsOf}
 
@@ -38,11 +35,7 @@ pub records-parts : (t : ℕ) (ss : List Segment) → recordsFrom t ss ≡ parts
 records-parts t [] = refl
 records-parts t (s ∷ ss) = ap (λ (l : List Part). recordOf t s ∷ l) (records-parts (t + length (s .chars)) ss)
 
-pub flat-numbers : (ps : List Part) → flat ps ≡ numbersOf ps
-flat-numbers [] = refl
-flat-numbers (p ∷ ps) = ap (λ (l : List ℕ). p .kind ∷ p .start ∷ p .len ∷ p .assign ∷ l) (flat-numbers ps)
-
-records-length : (t : ℕ) (ss : List Segment) → length (recordsFrom t ss) ≡ length ss
+pub records-length : (t : ℕ) (ss : List Segment) → length (recordsFrom t ss) ≡ length ss
 records-length t [] = refl
 records-length t (s ∷ ss) = ap suc (records-length (t + length (s .chars)) ss)
 
@@ -124,12 +117,6 @@ redraw g a rest o scratch x big room =
 
 -- ---- what a reading left in the lent memory
 
-flat-one : (ps qs : List Part) → flat ps ≡ flat qs → ps ≡ qs
-flat-one ps qs e = sym (parts-read ps) ∙ ap partsOf (sym (flat-numbers ps) ∙ e ∙ flat-numbers qs) ∙ parts-read qs
-
-flat-length : (ss : List Segment) → length (flat (recordsFrom 0 ss)) ≡ 4 * length ss
-flat-length ss = ap length (flat-numbers (recordsFrom 0 ss) ∙ ap numbersOf (records-parts 0 ss)) ∙ numbers-length 0 ss
-
 -- the parts of an answer
 module _ (v l m n k w j i c t : ℕ) (e : readAs v l m n k ≡ readAs w j i c t) where
   same-version : v ≡ w
@@ -150,8 +137,8 @@ from-label : (g : List ℕ) (a : Label) (rest o u : List ℕ) (v l m : ℕ) (t :
 from-label g a rest o u v l m t rs x hv hl hm chars parts big room = rw (hv, hl, hm, chars, parts) (redraw g a rest o u x (rw hv at big) room)
 
 -- THE LAW: the records that a reading left, over the text that it left, are drawn as the grid that was read
-pub read-redraw : (g : List ℕ) (s : ℕ) (text records scratch : List ℕ) (out : Read) (v l m n k : ℕ) (rs : List Part) (o u : List ℕ)
-    → Reads g s text records scratch out → out .answer ≡ readAs v l m n k → take (4 * n) (out .records) ≡ flat rs
+pub read-redraw : (g : List ℕ) (s : ℕ) (text : List ℕ) (records : List Part) (scratch : List ℕ) (out : Read) (v l m n k : ℕ) (rs : List Part) (o u : List ℕ)
+    → Reads g s text records scratch out → out .answer ≡ readAs v l m n k → take n (out .records) ≡ rs
     → side v * side v ≤ length o → 40_000 ≤ length u → encode l v v m false (out .text) rs o u ≡ accept v l m g o u
 unfolding written
 read-redraw g s text records scratch out v l m n k rs o u x q held big room =
@@ -163,8 +150,7 @@ read-redraw g s text records scratch out v l m n k rs o u x q held big room =
     let hl : l ≡ a .level = same-level v l m n k (a .version) (a .level) (a .mask) (length ss) (length (characters ss)) e in
     let hm : m ≡ a .mask = same-mask v l m n k (a .version) (a .level) (a .mask) (length ss) (length (characters ss)) e in
     let hn : n ≡ length ss = same-count v l m n k (a .version) (a .level) (a .mask) (length ss) (length (characters ss)) e in
-    let numbers : take (4 * length ss) (out .records) ≡ flat (recordsFrom 0 ss) =
-    ap (λ (r : Read). take (4 * length ss) (r .records)) (A .returned) ∙ take-at (flat (recordsFrom 0 ss)) (drop (4 * length ss) records) (4 * length ss) (flat-length ss) in
-    let parts : rs ≡ recordsFrom 0 ss = flat-one rs (recordsFrom 0 ss) (sym held ∙ ap (λ (c : ℕ). take (4 * c) (out .records)) hn ∙ numbers) in
+    let parts : rs ≡ recordsFrom 0 ss =
+    sym held ∙ ap₂ (λ (c : ℕ) (r : Read). take c (r .records)) hn (A .returned) ∙ take-at (recordsFrom 0 ss) (drop (length ss) records) (length ss) (records-length 0 ss) in
     let chars : out .text ≡ characters ss ++ drop (length (characters ss)) text = ap (λ (r : Read). r .text) (A .returned) in
     from-label g a (drop (length (characters ss)) text) o u v l m (out .text) rs (A .shows) hv hl hm chars parts big room

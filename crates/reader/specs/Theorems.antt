@@ -1,6 +1,6 @@
 -- What the reader's relation says, over the definition alone: its outcome is unique, and it accepts exactly the grids that show a label.
 -- Assumes nothing.
-use Prim.Native.Nat.{ℕ, zero, suc, _+_, _*_, _/_, _%_, _≤_, _<_}
+use Prim.Native.Nat.{ℕ, zero, suc, _+_, _*_, _%_, _≤_, _<_}
 use mathlib.Core.Bool.{Bool, true, false, cond, _&&_}
 use mathlib.Core.List.{List}
 use mathlib.Core.Path.{_≡_, refl, sym, ap, _∙_, subst}
@@ -10,6 +10,7 @@ use lib.ListN.{length, getD}
 use borrow.Author.Tests.{le-ltb, le-leb, eq-eqb}
 use Rattle.standard.specs.Numbers.{least}
 use Rattle.standard.specs.Sizes.{side}
+use Rattle.standard.specs.Segments.{Part}
 use Rattle.standard.specs.Plan.{Refusal, refusal}
 use Rattle.standard.specs.Encode.{zeroed}
 use Rattle.standard.specs.Module.{versionOf, validSide}
@@ -25,7 +26,7 @@ use Rattle.reader.specs.Labels.{Proper, proper, codewordsOf, grid-length
 
 -- ---- any two outcomes are equal
 
-finds-unique : (g text records z : List ℕ) (o p : Read) → Finds g text records z o → Finds g text records z p → o ≡ p
+finds-unique : (g text : List ℕ) (records : List Part) (z : List ℕ) (o p : Read) → Finds g text records z o → Finds g text records z p → o ≡ p
 finds-unique g text records z o p (shown a x e) (shown b y f) = e ∙ ap (λ (c : Label). labelled c text records z) (no-two-labels g a b x y) ∙ sym f
 finds-unique g text records z o p (shown a x e) (none n f) = absurd (n a x)
 finds-unique g text records z o p (none n e) (shown b y f) = absurd (n b y)
@@ -38,7 +39,7 @@ no-refusal : (e : Refusal) → _≡_ {A = First} (refusedBy e) nothing → ⊥
 no-refusal e q = let z : _≡_ {A = ℕ} 0 1 = cc in omega arith
 
 -- THE LAW: any two outcomes that meet the reader's relation are equal
-pub read-unique : (g : List ℕ) (s : ℕ) (text records scratch : List ℕ) (o p : Read) → Reads g s text records scratch o → Reads g s text records scratch p → o ≡ p
+pub read-unique : (g : List ℕ) (s : ℕ) (text : List ℕ) (records : List Part) (scratch : List ℕ) (o p : Read) → Reads g s text records scratch o → Reads g s text records scratch p → o ≡ p
 read-unique g s text records scratch o p (refuses d e q) (refuses f h r) =
     q ∙ ap (λ (x : Refusal). refuseTo x text records scratch) (same-refusal d f (sym e ∙ h)) ∙ sym r
 read-unique g s text records scratch o p (refuses d e q) (looks h f) = absurd (no-refusal d (sym e ∙ h))
@@ -97,15 +98,15 @@ label-first g a scratch x room =
     no-first g (side (a .version)) (length scratch) (side-valid (a .version) (p .least) (p .most)) long
     (none-above g (λ i h. subst (λ (x : List ℕ). getD x i 0 < 2) (sym e) (grid-small (a .version) (a .level) (a .mask) c i (omega arith)))) room
 
-labelled-long : (a : Label) (text records z : List ℕ) → length (characters (a .segments)) ≤ length text → length (a .segments) ≤ length records / 4
+labelled-long : (a : Label) (text : List ℕ) (records : List Part) (z : List ℕ) → length (characters (a .segments)) ≤ length text → length (a .segments) ≤ length records
     → labelled a text records z ≡ written a text records z
 unfolding labelled
 labelled-long a text records z long many =
-    rw (le-ltb (length text) (length (characters (a .segments))) long, le-ltb (length records / 4) (length (a .segments)) many)
+    rw (le-ltb (length text) (length (characters (a .segments))) long, le-ltb (length records) (length (a .segments)) many)
 
 -- the grid of a label is accepted, with buffers long enough, and that label is returned
-pub accepts-shown : (g : List ℕ) (a : Label) (text records scratch : List ℕ) (out : Read) → Shows g a → 40_000 ≤ length scratch
-    → length (characters (a .segments)) ≤ length text → length (a .segments) ≤ length records / 4
+pub accepts-shown : (g : List ℕ) (a : Label) (text : List ℕ) (records : List Part) (scratch : List ℕ) (out : Read) → Shows g a → 40_000 ≤ length scratch
+    → length (characters (a .segments)) ≤ length text → length (a .segments) ≤ length records
     → Reads g (side (a .version)) text records scratch out → out ≡ written a text records (zeroed scratch)
 accepts-shown g a text records scratch out x room long many (refuses e q f) = absurd (no-refusal e (sym q ∙ label-first g a scratch x room))
 accepts-shown g a text records scratch out x room long many (looks q (shown b y f)) =
@@ -113,21 +114,21 @@ accepts-shown g a text records scratch out x room long many (looks q (shown b y 
 accepts-shown g a text records scratch out x room long many (looks q (none n f)) = absurd (n a x)
 
 -- the grid shows a label, and that is what is returned
-pub record Accepts (g text records z : List ℕ) (out : Read) : Type 0 where
+pub record Accepts (g text : List ℕ) (records : List Part) (z : List ℕ) (out : Read) : Type 0 where
   pub label : Label
   pub shows : Shows g label
   pub returned : out ≡ written label text records z
 
-refused-answer : {A : Type 0} (e : Refusal) (text records z : List ℕ) (out : Read) (v l m n k : ℕ) → out ≡ refuseTo e text records z → out .answer ≡ readAs v l m n k → A
+refused-answer : {A : Type 0} (e : Refusal) (text : List ℕ) (records : List Part) (z : List ℕ) (out : Read) (v l m n k : ℕ) → out ≡ refuseTo e text records z → out .answer ≡ readAs v l m n k → A
 refused-answer e text records z out v l m n k f q =
     let p : unread e ≡ readAs v l m n k = sym (ap (λ (r : Read). r .answer) f) ∙ q in
     let z : _≡_ {A = ℕ} 0 1 = cc in
     absurd (omega arith)
 
-module _ (g text records z : List ℕ) (out : Read) (v l m n k : ℕ) (q : out .answer ≡ readAs v l m n k) where
+module _ (g text : List ℕ) (records : List Part) (z : List ℕ) (out : Read) (v l m n k : ℕ) (q : out .answer ≡ readAs v l m n k) where
   accepts-label : (a : Label) → Shows g a → out ≡ labelled a text records z → Accepts g text records z out
   unfolding labelled
-  accepts-label a x f = go (ltb (length text) (length (characters (a .segments)))) (ltb (length records / 4) (length (a .segments))) f
+  accepts-label a x f = go (ltb (length text) (length (characters (a .segments)))) (ltb (length records) (length (a .segments))) f
     where
       go : (s t : Bool)
           → out
@@ -139,7 +140,7 @@ module _ (g text records z : List ℕ) (out : Read) (v l m n k : ℕ) (q : out .
       go false false f = record { label = a; shows = x; returned = f }
 
 -- whatever is accepted shows a label, and that label is returned
-pub accepts-only : (g : List ℕ) (s : ℕ) (text records scratch : List ℕ) (out : Read) (v l m n k : ℕ) → Reads g s text records scratch out
+pub accepts-only : (g : List ℕ) (s : ℕ) (text : List ℕ) (records : List Part) (scratch : List ℕ) (out : Read) (v l m n k : ℕ) → Reads g s text records scratch out
     → out .answer ≡ readAs v l m n k → Accepts g text records (zeroed scratch) out
 accepts-only g s text records scratch out v l m n k (refuses e p f) q = refused-answer e text records scratch out v l m n k f q
 accepts-only g s text records scratch out v l m n k (looks p (shown a x f)) q = accepts-label g text records (zeroed scratch) out v l m n k q a x f

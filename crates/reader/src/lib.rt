@@ -19,8 +19,7 @@ ghost use Rattle.modules.specs.FormatBack.{readLevel, readMask};
 ghost use Rattle.modules.specs.Work.{Small};
 ghost use Rattle.modules.specs.Back.{readGrid, readWords};
 ghost use Rattle.modules.specs.Again.{Worked};
-ghost use Rattle.standard.specs.Read.{Finds, Reads};
-ghost use Rattle.reader.specs.Answers.{readOf};
+ghost use Rattle.reader.specs.Numbers.{FindsNumbers, ReadsNumbers};
 ghost use Rattle.reader.specs.Told.{Tells};
 ghost use Rattle.reader.specs.Recovered.{Looks};
 ghost use Rattle.standard.specs.Encode.{zeroed};
@@ -232,7 +231,7 @@ fn read_checked(
 ) -> Outcome
     requires { ⌜ Square (now grid) (side (ver .0)) ⌝ }
     requires { ⌜ IsVersion ver × (40000 ≤ length (now scratch)) × Small (ver .0) (now grid) ⌝ }
-    ensures { λ r. ⌜ Finds (now (grid .entry)) (now (text .entry)) (now (records .entry)) (zeroed (now (scratch .entry))) (readOf r (now (text .exit)) (now (records .exit)) (now (scratch .exit))) ⌝ }
+    ensures { λ r. ⌜ FindsNumbers (now (grid .entry)) (now (text .entry)) (now (records .entry)) (zeroed (now (scratch .entry))) r (now (text .exit)) (now (records .exit)) (now (scratch .exit)) ⌝ }
 {
     let size = patterns::size_of(ver);
     let area = size * size;
@@ -250,7 +249,7 @@ pub fn read(
     records: &mut [u64],
     scratch: &mut [u8],
 ) -> Outcome
-    ensures { λ r. ⌜ Reads (now (grid .entry)) size (now (text .entry)) (now (records .entry)) (now (scratch .entry)) (readOf r (now (text .exit)) (now (records .exit)) (now (scratch .exit))) ⌝ }
+    ensures { λ r. ⌜ ReadsNumbers (now (grid .entry)) size (now (text .entry)) (now (records .entry)) (now (scratch .entry)) r (now (text .exit)) (now (records .exit)) (now (scratch .exit)) ⌝ }
 {
     let e = check::check_first(grid, size, scratch.len());
     match e {

@@ -1,7 +1,6 @@
 -- The reading entry: for every input the answer, and what the lent text, records and scratch hold at the return.
--- A record takes four numbers of the lent records: kind, start, length and assign.
 -- Document 01, "Refusal table". Assumes nothing.
-use Prim.Native.Nat.{ℕ, _+_, _*_, _/_}
+use Prim.Native.Nat.{ℕ, _+_, _*_}
 use mathlib.Core.Bool.{cond, not}
 use mathlib.Core.List.{List, [], _∷_, _++_, map}
 use mathlib.Core.Path.{_≡_}
@@ -23,7 +22,7 @@ pub data Reading : Type 0 where
 pub record Read : Type 0 where
   pub answer : Reading
   pub text : List ℕ
-  pub records : List ℕ
+  pub records : List Part
   pub scratch : List ℕ
 
 -- ---- refusals 11, 12, 13 and 9
@@ -45,7 +44,7 @@ firstRefusal g s n =
     (cond (ltb n 40_000) (refusedBy (refusal 9 40_000 0)) nothing)))
 
 -- a refusal leaves text and records as they were; z is what scratch holds at the return
-abbrev pub refuseTo : Refusal → List ℕ → List ℕ → List ℕ → Read
+abbrev pub refuseTo : Refusal → List ℕ → List Part → List ℕ → Read
 refuseTo e text records z = record { answer = unread e; text = text; records = records; scratch = z }
 
 -- ---- a label
@@ -63,37 +62,32 @@ abbrev pub recordsFrom : ℕ → List Segment → List Part
 recordsFrom t [] = []
 recordsFrom t (s ∷ ss) = recordOf t s ∷ recordsFrom (t + length (s .chars)) ss
 
--- records as numbers
-abbrev pub flat : List Part → List ℕ
-flat [] = []
-flat (r ∷ rs) = r .kind ∷ r .start ∷ r .len ∷ r .assign ∷ flat rs
-
 -- text and records are written from the start on, and the rest of them stays
-unfoldable pub written : Label → List ℕ → List ℕ → List ℕ → Read
+unfoldable pub written : Label → List ℕ → List Part → List ℕ → Read
 written a text records z =
     record {
       answer = readAs (a .version) (a .level) (a .mask) (length (a .segments)) (length (characters (a .segments)));
       text = characters (a .segments) ++ drop (length (characters (a .segments))) text;
-      records = flat (recordsFrom 0 (a .segments)) ++ drop (4 * length (a .segments)) records;
+      records = recordsFrom 0 (a .segments) ++ drop (length (a .segments)) records;
       scratch = z;
     }
 
 -- refusals 15 and 16, and else the label
-unfoldable pub labelled : Label → List ℕ → List ℕ → List ℕ → Read
+unfoldable pub labelled : Label → List ℕ → List Part → List ℕ → Read
 labelled a text records z =
     let n = length (characters (a .segments)) in
     let count = length (a .segments) in
     cond (ltb (length text) n) (refuseTo (refusal 15 n 0) text records z)
-    (cond (ltb (length records / 4) count) (refuseTo (refusal 16 count 0) text records z) (written a text records z))
+    (cond (ltb (length records) count) (refuseTo (refusal 16 count 0) text records z) (written a text records z))
 
 -- ---- the relation
 
 -- what is returned for a grid that is one: the label that it shows, or that no label has it
-pub data Finds (g text records z : List ℕ) (out : Read) : Type 0 where
+pub data Finds (g text : List ℕ) (records : List Part) (z : List ℕ) (out : Read) : Type 0 where
   shown : (a : Label) → Shows g a → out ≡ labelled a text records z → Finds g text records z out
   none : ((a : Label) → Shows g a → ⊥) → out ≡ refuseTo (refusal 14 0 0) text records z → Finds g text records z out
 
 -- a grid, a side, lent text, records and scratch, and what is returned: refusals 11, 12, 13 and 9 change nothing, all else zeroes scratch
-pub data Reads (g : List ℕ) (s : ℕ) (text records scratch : List ℕ) (out : Read) : Type 0 where
+pub data Reads (g : List ℕ) (s : ℕ) (text : List ℕ) (records : List Part) (scratch : List ℕ) (out : Read) : Type 0 where
   refuses : (e : Refusal) → firstRefusal g s (length scratch) ≡ refusedBy e → out ≡ refuseTo e text records scratch → Reads g s text records scratch out
   looks : firstRefusal g s (length scratch) ≡ nothing → Finds g text records (zeroed scratch) out → Reads g s text records scratch out

@@ -1,0 +1,4 @@
+pub mod Records
+pub mod Encoded
+pub mod Reading
+pub mod Unique
