@@ -2,13 +2,12 @@
 -- Assumes nothing.
 use Prim.Native.Nat.{ℕ, zero, suc, _+_, _-_, _*_, _/_, _^_, _≤_, _<_}
 use mathlib.Core.Bool.{Bool, cond}
-use mathlib.Core.List.{List, [], _∷_, _++_}
+use mathlib.Core.List.{List, [], _∷_}
 use mathlib.Core.Path.{_≡_, refl, sym, ap, ap₂, _∙_}
 use native.Mathlib.Nat.{le-of-suc-le-suc, mul-le-mul}
 use native.Mathlib.Omega.{arith}
 use lib.ListN.{length, getD, set}
 use borrow.Author.Tests.{lt-ltb, le-ltb, le-leb, lt-leb, eq-eqb, ne-eqb}
-use Rattle.standard.specs.Numbers.{tabulate, join}
 use Rattle.label.specs.Text.{bytes, Said}
 use Rattle.label.specs.TextLaws.{said-as, said-none, said-one, said-then, said-set, said-next}
 use Rattle.label.specs.Picture.{shown, half, glyph, characters, line, lines, picture}

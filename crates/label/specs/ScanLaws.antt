@@ -5,13 +5,13 @@ use mathlib.Core.Bool.{Bool, true, false, cond, not, _||_}
 use mathlib.Core.List.{List, [], _∷_, _++_, append-nil, append-assoc}
 use mathlib.Core.Path.{_≡_, refl, sym, ap, ap₂, _∙_}
 use native.Mathlib.Numerals.{add-one}
-use native.Mathlib.Nat.{not-suc-le-zero, le-of-suc-le-suc, mul-le-mul, mod-lt, div-add-mod', div-lt-iff-lt-mul, div-le-self, mul-add, mul-one, zero-mul}
+use native.Mathlib.Nat.{mul-le-mul, mod-lt, div-add-mod', div-lt-iff-lt-mul, div-le-self, mul-add, mul-one, zero-mul}
 use native.Mathlib.Omega.{arith}
 use lib.Arith.{digits-div, digits-mod, digits-lt}
 use lib.Dec.{T, eqb, ltb}
 use lib.ListN.{length, getD, set, take, drop, length-append, length-take, take-append-drop, List·getD-append, List·getD-eq-default}
 use lib.Seq.{take-suc, take-all, take-append-seam}
-use borrow.Author.Tests.{lt-ltb, le-ltb, eq-eqb, ne-eqb, eqb-true, eqb-false, not-true}
+use borrow.Author.Tests.{eq-eqb, ne-eqb, eqb-true, eqb-false, not-true}
 use Rattle.standard.specs.Numbers.{one, from, tabulate, join, least, consIf, keep, place, every, same}
 use Rattle.laws.specs.Tests.{T-true, true-T, and-left, and-right, and-both, cond-same, split}
 use Rattle.laws.specs.Joins.{join-length, join-at}
@@ -21,7 +21,7 @@ use Rattle.laws.specs.Each.{each, eachDone, each-end}
 use Rattle.modules.specs.Kept.{keep-append}
 use Rattle.label.specs.Text.{bytes, over, Said}
 use Rattle.label.specs.TextLaws.{said-as, said-none, said-one, said-then}
-use Rattle.label.specs.Picture.{shown, half, glyph, characters, line, lines, picture}
+use Rattle.label.specs.Picture.{shown, half, glyph, characters, line, picture}
 use Rattle.label.specs.PictureLaws.{shown-inside}
 use Rattle.label.specs.Words.{beginsWith}
 use Rattle.label.specs.Scan.{isHalf, halves, upper, lower, moduleOf, sideOf, Drawable, Begins, drawn, none, digit, rowModule, rows, even, uneven}
@@ -79,7 +79,6 @@ module _ (side : ℕ) (g : List ℕ) where
   half-at : (rest : List ℕ) (j x : ℕ) → j < (side + 9) / 2 → x < side + 8
       → getD (halves (picture side g ++ rest)) (j * (side + 8) + x) 0 ≡ half (shown side g x (2 * j)) (shown side g x (2 * j + 1))
   half-at rest j x a b =
-      let n : ℕ = (side + 9) / 2 in
       let f : ℕ → List ℕ = λ (j : ℕ). rowHalves side g (2 * j) in
       let all : (i : ℕ) → 0 ≤ i → i < 0 + (side + 9) / 2 → length (f i) ≡ side + 8 = λ i l u. row-length (2 * i) in
       let p : j * (side + 8) + x < (side + 9) / 2 * (side + 8) = digits-lt a b in
@@ -141,12 +140,6 @@ module _ (side : ℕ) (g : List ℕ) (d : Drawable side g) where
   module-back : (rest : List ℕ) (k : ℕ) → k < side * side → moduleOf side (halves (picture side g ++ rest)) k ≡ getD g k 0
   module-back rest k h = go (eqb ((k / side + 4) % 2) 0) refl
     where
-      hs : List ℕ
-      hs = halves (picture side g ++ rest)
-
-      j : ℕ
-      j = (k / side + 4) / 2
-
       x-lt : k % side < side
       x-lt = mod-lt k (d .some)
 
@@ -459,7 +452,6 @@ module _ (t w₁ w₂ g g′ : List ℕ) (side n end : ℕ) (b : Bool) (m : b �
   pub begins-drawn : b ≡ true → Said w₁ 0 (picture side g′) w₂ end → g′ ≡ tabulate (length g) (moduleOf side (take (n - 0) (drop 0 w₁)))
       → length g ≡ side * side → 0 < side → side ≤ 177 → Begins t side end g′
   begins-drawn q s e l p u =
-      let f : ℕ → ℕ = moduleOf side (take (n - 0) (drop 0 w₁)) in
       let w : beginsWith t (picture side g′) ≡ true = ap (beginsWith t) (sym (said-part s)) ∙ sym m ∙ q in
       let x : take (length (picture side g′)) t ≡ picture side g′
       = same-eq (take (length (picture side g′)) t) (picture side g′) (true-T (same (take (length (picture side g′)) t) (picture side g′)) w) in
@@ -506,6 +498,3 @@ pub begins-end : {t : List ℕ} {side end : ℕ} {g : List ℕ} → Begins t sid
 begins-end {t} {side} {end} {g} (drawn rest d e q) =
     (drawn rest d e q, omega (arith, ap length e, length-append (picture side g) rest))
 begins-end {t} {side} {end} {g} (none z n) = (none z n, omega arith)
-
-pub square-whole : (g : List ℕ) (side : ℕ) → length g ≡ 65536 → side ≤ 177 → length (take (side * side - 0) (drop 0 g)) ≡ side * side
-square-whole g side e h = omega (arith, length-take (side * side - 0) (drop 0 g), square-small side h)

@@ -1,6 +1,6 @@
 -- Texts as bytes, what it is to write one into lent memory, and the words that go with a label.
 -- Assumes nothing.
-use Prim.Native.Nat.{ℕ, _+_, _-_, _/_, _%_}
+use Prim.Native.Nat.{ℕ, _+_, _/_, _%_}
 use Prim.Native.Char.{code}
 use Prim.Native.String.{String, len, charAt}
 use mathlib.Core.Bool.{Bool, cond, _&&_}

@@ -1,6 +1,5 @@
 // Text that is put together in lent memory before it is written: words, numbers, the line under a picture, escaped bytes.
 ghost use mathlib.Core.Path.{_≡_};
-ghost use mathlib.Core.List.{[], _∷_};
 ghost use Prim.Native.Nat.{_+_, _*_, _≤_, _<_};
 ghost use lib.ListN.{length};
 ghost use Rattle.label.specs.Text.{Said, decimal, letter as letterOf, caption as captionOf, hexDigit, hexed, escapedByte, escaped};
