@@ -48,7 +48,9 @@ pub fn families(count: u64) -> Vec<Family> {
     for (name, share, make) in random {
         all.push(Family { name, cases: (left * share / 100).max(320), make, random: true, bound: false });
     }
-    all.push(Family { name: "Rust crate", cases: left * 2 / 100, make: bindings, random: true, bound: true });
+    let sum: u64 = all.iter().map(|f| f.cases).sum();
+    let cases = count.saturating_sub(sum).max(400);
+    all.push(Family { name: "Rust crate", cases, make: bindings, random: true, bound: true });
     all
 }
 
