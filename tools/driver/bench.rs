@@ -50,8 +50,8 @@ fn rows() -> Vec<Row> {
     all
 }
 
-/// Measures and prints the table; true, as there is nothing here that fails.
-pub fn bench() -> bool {
+/// Measures and prints the table.
+pub fn bench() {
     println!("level Low, versions 1 to 40, no boost; processor time in microseconds a call");
     println!("best of {ROUNDS} rounds of at least {} ms each, taken in turn", ROUND / 1_000_000);
     println!("The port draws in buffers that the caller lends and does not clear between calls;");
@@ -69,7 +69,6 @@ pub fn bench() -> bool {
     for row in rows().iter().filter(|r| r.mask != MASK_AUTO) {
         read_row(row);
     }
-    true
 }
 
 // Best times of several things, in microseconds; rounds are taken in turn, so that a busy machine is fair to all.

@@ -291,7 +291,7 @@ pub fn one_kind(r: &mut Random, c: &mut Case, v: u8, kind: usize) {
     c.text = (0..n).map(|_| character(r, kind)).collect();
 }
 
-/// Every version four times, then some.
+/// The version of a mixed list for libqrencode: each four times at each level, then some.
 pub fn any_version(r: &mut Random, i: u64) -> u8 {
     if i < 480 + 640 {
         ((i - 480) / 16 + 1) as u8
