@@ -1,13 +1,31 @@
-//! Times of the port, of the Rust original and of libqrencode, measured in one run: the best of nine rounds of each.
+//! Times of the port, of the Rust original and of libqrencode, measured in one run: the best of 25 rounds of each.
 use crate::model::{mask, LEVELS};
 use gatemurmur::raw::{self, Record, GRID, MASK_AUTO, SCRATCH, TEXT};
 use qrcodegen::{QrCode, QrSegment, Version};
 use std::hint::black_box;
-use std::time::Instant;
 
-const ROUNDS: usize = 9;
+const ROUNDS: usize = 25;
 /// A round lasts at least as long, in nanoseconds.
-const ROUND: u128 = 30_000_000;
+const ROUND: i64 = 10_000_000;
+
+#[repr(C)]
+struct Time {
+    seconds: i64,
+    nanoseconds: i64,
+}
+
+extern "C" {
+    fn clock_gettime(clock: i32, time: *mut Time) -> i32;
+}
+
+/// Processor time of this thread in nanoseconds (clock 3 on Linux), so that other work on the machine is not counted.
+fn now() -> i64 {
+    let mut time = Time { seconds: 0, nanoseconds: 0 };
+    // Safety: the struct is the C library's timespec on 64-bit Linux.
+    let status = unsafe { clock_gettime(3, &mut time) };
+    assert_eq!(status, 0);
+    time.seconds * 1_000_000_000 + time.nanoseconds
+}
 
 struct Row {
     name: &'static str,
@@ -32,13 +50,12 @@ fn rows() -> Vec<Row> {
     all
 }
 
-/// Measures and prints the table; true, as there is nothing here that fails.
-pub fn bench() -> bool {
-    println!(
-        "level Low, versions 1 to 40, no boost; best of {ROUNDS} rounds of at least {} ms each, in microseconds a call",
-        ROUND / 1_000_000
-    );
-    println!("The port draws in buffers that the caller lends and does not clear between calls; the call itself zeroes 40,000 bytes of scratch.");
+/// Measures and prints the table.
+pub fn bench() {
+    println!("level Low, versions 1 to 40, no boost; processor time in microseconds a call");
+    println!("best of {ROUNDS} rounds of at least {} ms each, taken in turn", ROUND / 1_000_000);
+    println!("The port draws in buffers that the caller lends and does not clear between calls;");
+    println!("the call itself zeroes 40,000 bytes of scratch.");
     println!("The original and libqrencode allocate and free in each call; the original's segments are made in the call, as the port's are.");
     println!(
         "{:30} {:>10} {:>10} {:>12} {:>12} {:>16}",
@@ -52,7 +69,6 @@ pub fn bench() -> bool {
     for row in rows().iter().filter(|r| r.mask != MASK_AUTO) {
         read_row(row);
     }
-    true
 }
 
 // Best times of several things, in microseconds; rounds are taken in turn, so that a busy machine is fair to all.
@@ -60,12 +76,12 @@ fn best(calls: &mut [&mut dyn FnMut()]) -> Vec<f64> {
     let mut times = vec![f64::MAX; calls.len()];
     for _ in 0..ROUNDS {
         for (time, call) in times.iter_mut().zip(calls.iter_mut()) {
-            let (start, mut n) = (Instant::now(), 0u32);
-            while start.elapsed().as_nanos() < ROUND || n < 3 {
+            let (start, mut n) = (now(), 0u32);
+            while now() - start < ROUND {
                 call();
                 n += 1;
             }
-            *time = time.min(start.elapsed().as_nanos() as f64 / 1000.0 / f64::from(n));
+            *time = time.min((now() - start) as f64 / 1000.0 / f64::from(n));
         }
     }
     times

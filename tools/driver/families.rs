@@ -48,7 +48,9 @@ pub fn families(count: u64) -> Vec<Family> {
     for (name, share, make) in random {
         all.push(Family { name, cases: (left * share / 100).max(320), make, random: true, bound: false });
     }
-    all.push(Family { name: "Rust crate", cases: left * 2 / 100, make: bindings, random: true, bound: true });
+    let sum: u64 = all.iter().map(|f| f.cases).sum();
+    let cases = count.saturating_sub(sum).max(400);
+    all.push(Family { name: "Rust crate", cases, make: bindings, random: true, bound: true });
     all
 }
 
@@ -289,7 +291,7 @@ pub fn one_kind(r: &mut Random, c: &mut Case, v: u8, kind: usize) {
     c.text = (0..n).map(|_| character(r, kind)).collect();
 }
 
-/// Every version four times, then some.
+/// The version of a mixed list for libqrencode: each four times at each level, then some.
 pub fn any_version(r: &mut Random, i: u64) -> u8 {
     if i < 480 + 640 {
         ((i - 480) / 16 + 1) as u8

@@ -20,7 +20,9 @@ use std::time::{Duration, Instant};
 struct Options {
     command: String,
     seed: u64,
-    count: u64,
+    /// How many cases, where that is said.
+    count: Option<u64>,
+    quick: bool,
     jobs: usize,
     /// Seconds after which the random families end early.
     seconds: u64,
@@ -28,8 +30,15 @@ struct Options {
 }
 
 fn options() -> Options {
-    let mut o =
-        Options { command: "compare".into(), seed: 1, count: 1_000_000, jobs: 2, seconds: 1_000_000, only: None };
+    let mut o = Options {
+        command: "compare".into(),
+        seed: 1,
+        count: None,
+        quick: false,
+        jobs: 2,
+        seconds: 1_000_000,
+        only: None,
+    };
     let mut words = std::env::args().skip(1);
     let number = |word: Option<String>, name: &str| {
         word.and_then(|w| w.replace('_', "").parse().ok()).unwrap_or_else(|| usage(&format!("{name} takes a number")))
@@ -37,11 +46,11 @@ fn options() -> Options {
     while let Some(word) = words.next() {
         match word.as_str() {
             "--seed" => o.seed = number(words.next(), "--seed"),
-            "--count" => o.count = number(words.next(), "--count"),
+            "--count" => o.count = Some(number(words.next(), "--count")),
             "--jobs" => o.jobs = number(words.next(), "--jobs").max(1) as usize,
             "--seconds" => o.seconds = number(words.next(), "--seconds"),
             "--only" => o.only = words.next(),
-            "--quick" => o.count = 100_000,
+            "--quick" => o.quick = true,
             "--selftest" => o.command = "selftest".into(),
             "--qrencode" => o.command = "qrencode".into(),
             "--bench" => o.command = "bench".into(),
@@ -61,7 +70,10 @@ fn usage(why: &str) -> ! {
 fn main() {
     let o = options();
     let good = match o.command.as_str() {
-        "bench" => bench::bench(),
+        "bench" => {
+            bench::bench();
+            true
+        }
         "selftest" => selftest(&o),
         "qrencode" => second(&o),
         _ => compare(&o),
@@ -71,7 +83,7 @@ fn main() {
 
 #[cfg(qrencode)]
 fn second(o: &Options) -> bool {
-    qrencode::compare(o.seed, o.count, o.jobs)
+    qrencode::compare(o.seed, o.count.unwrap_or(if o.quick { 1_200 } else { 5_000 }), o.jobs)
 }
 
 #[cfg(not(qrencode))]
@@ -149,7 +161,7 @@ fn listed(numbers: &BTreeMap<u32, u64>) -> String {
 fn compare(o: &Options) -> bool {
     let start = Instant::now();
     let mut all = Vec::new();
-    let mut families = families::families(o.count);
+    let mut families = families::families(o.count.unwrap_or(if o.quick { 100_000 } else { 1_000_000 }));
     families.retain(|f| o.only.as_ref().map_or(true, |name| name == f.name));
     for (i, family) in families.iter().enumerate() {
         let left: u64 = families[i..].iter().filter(|f| f.random).map(|f| f.cases).sum();
