@@ -1,0 +1,28 @@
+-- `gatemurmur_encode_binary` meets its contract.
+-- Assumes nothing.
+use Rattle.gatemurmur.specs.Laws.{entry-told}
+use borrow.Author.Needs.{needs}
+use Rattle.gatemurmur.proofs.gatemurmur_encode_binary.Statement.{statement}
+use Rattle.gatemurmur.proofs.gatemurmur_encode_binary.Tie as tie
+
+encode-binary-requires : tie.Need-encode-binary-requires
+encode-binary-requires c κs = search needs
+
+of-outcome-requires : tie.Need-of-outcome-requires
+of-outcome-requires c κs = search needs
+
+same-length : tie.Need-same-length
+same-length c = search needs
+
+same-length-2 : tie.Need-same-length-2
+same-length-2 c = search needs
+
+returns : tie.Need-returns
+returns c =
+    let k = c .before .before .before .before .before .encode-binary in
+    entry-told _ (k .result) _ _ _ (c .of-outcome .ensures) (k .ensures)
+
+pub gatemurmur-encode-binary-spec : {M : Type 1} → statement M
+gatemurmur-encode-binary-spec =
+    tie.close
+    (tie.spec encode-binary-requires of-outcome-requires same-length same-length-2 returns)

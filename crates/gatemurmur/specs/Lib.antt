@@ -1,0 +1,3 @@
+pub mod Told
+pub mod Laws
+pub mod Unique
