@@ -2,15 +2,15 @@
  * Gatemurmur: the QR label on a disc sleeve, from segments to modules and back.
  *
  * Link with libgatemurmur.a, which `rt staticlib gatemurmur` writes to target/staticlib, for x86-64. The library has no
- * state and no memory of its own but the stack, where an entry has local arrays of about 9 KB; it calls memcpy and memset
- * and nothing else. So calls from several threads at once are fine, each with its own buffers.
+ * state and no memory of its own but the stack, where an entry has local arrays of about 9 KB, and one with records of about
+ * 79 KB; it calls memcpy and memset and nothing else. So calls from several threads at once are fine, each with its own buffers.
  *
  * Numbers
  *   level     0 Low, 1 Medium, 2 Quartile, 3 High
  *   version   1 to 40; a label has side = 4 * version + 17 modules to a row, 21 to 177
  *   mask      0 to 7; 8 asks for the automatic choice: the lowest mask of the least penalty
  *   grid      one byte a module, 0 light and 1 dark, row by row
- *   record    four numbers: kind, start, length, assign
+ *   record    kind, start, length and assign
  *               kind 0 Numeric, 1 Alphanumeric, 2 Byte: the part of the text from start on, of that length; assign is 0
  *               kind 3 ECI: start and length are 0, assign is the ECI number, below 1,000,000
  *
@@ -21,8 +21,7 @@
  *
  *   grid      at least side * side bytes of the version that is chosen; GATEMURMUR_GRID bytes do for every version
  *   scratch   at least GATEMURMUR_SCRATCH bytes
- *   records   4 numbers to a record, at most GATEMURMUR_RECORDS records; where the length is no multiple of 4, the numbers
- *             after the last whole record are not looked at
+ *   records   at most GATEMURMUR_RECORDS records
  *   text      of a reading: no label has more than GATEMURMUR_TEXT characters
  *
  * Refusals
@@ -70,15 +69,22 @@ extern "C" {
 /* Bytes of scratch that an entry takes. */
 #define GATEMURMUR_SCRATCH 40000
 
-/* The most records that a list may have, and the numbers that they are. */
+/* The most records that a list may have. */
 #define GATEMURMUR_RECORDS 2048
-#define GATEMURMUR_RECORD_NUMBERS (4 * GATEMURMUR_RECORDS)
 
 /* The most characters that a label has: 7,089 digits at version 40, level Low. */
 #define GATEMURMUR_TEXT 7089
 
 /* The mask number that asks for the automatic choice. */
 #define GATEMURMUR_MASK_AUTO 8
+
+/* A segment record: a part of a text in one kind, or an ECI number. */
+typedef struct gatemurmur_record {
+    uint64_t kind;
+    uint64_t start;
+    uint64_t length;
+    uint64_t assign;
+} gatemurmur_record;
 
 /* What an encoding function answers. */
 typedef struct gatemurmur_answer {
@@ -126,13 +132,13 @@ gatemurmur_answer gatemurmur_encode_binary(
     uint8_t *scratch, size_t scratch_length);
 
 /*
- * The same of a list of records over one text. Records may share text. records_length counts numbers, four to a record.
+ * The same of a list of records over one text. Records may share text. records_length counts records.
  *
  * Refusals in this order: 1, 2, 3, 4, 5, 6, 7, 8, 9.
  */
 gatemurmur_answer gatemurmur_encode_segments(
     const uint8_t *text, size_t text_length,
-    const uint64_t *records, size_t records_length,
+    const gatemurmur_record *records, size_t records_length,
     uint8_t level, uint8_t minversion, uint8_t maxversion, uint8_t mask, bool boostecl,
     uint8_t *grid, size_t grid_length,
     uint8_t *scratch, size_t scratch_length);
@@ -159,9 +165,8 @@ bool gatemurmur_get_module(
 
 /*
  * Reads the label that a grid shows. A grid is accepted exactly if gatemurmur_encode_segments draws it for some call.
- * The characters of all segments are written to text, joined, and the records to records, four numbers to each, both
- * from the start on; what lies after them stays. The records' starts run on from 0; an ECI record has start 0.
- * records_length counts numbers, four to a record.
+ * The characters of all segments are written to text, joined, and the records to records, both from the start on;
+ * what lies after them stays. The records' starts run on from 0; an ECI record has start 0.
  *
  * Refusals in this order: 11, 12, 13, 9, 14, 15, 16.
  */
@@ -169,7 +174,7 @@ gatemurmur_reading gatemurmur_read(
     const uint8_t *grid, size_t grid_length,
     size_t size,
     uint8_t *text, size_t text_length,
-    uint64_t *records, size_t records_length,
+    gatemurmur_record *records, size_t records_length,
     uint8_t *scratch, size_t scratch_length);
 
 #ifdef __cplusplus

@@ -12,9 +12,9 @@ enum { SPARE = 64, UNTOUCHED = 0xA5, LOW = 0, MEDIUM = 1, QUARTILE = 2, NUMERIC 
 static uint8_t grid[GATEMURMUR_GRID + SPARE];
 static uint8_t scratch[GATEMURMUR_SCRATCH + SPARE];
 static uint8_t text[GATEMURMUR_TEXT + SPARE];
-static uint64_t records[GATEMURMUR_RECORD_NUMBERS + 4];
+static gatemurmur_record records[GATEMURMUR_RECORDS + 1];
 static uint8_t input[8192];
-static uint64_t list[GATEMURMUR_RECORD_NUMBERS + 4];
+static gatemurmur_record list[GATEMURMUR_RECORDS + 1];
 static unsigned passed, failed;
 
 /* Counts a check, and says which one did not hold. */
@@ -116,17 +116,15 @@ static gatemurmur_answer of_bytes(size_t n, uint8_t level, uint8_t first, uint8_
 
 static void set_record(size_t i, uint64_t kind, uint64_t start, uint64_t length, uint64_t assign)
 {
-    list[4 * i] = kind;
-    list[4 * i + 1] = start;
-    list[4 * i + 2] = length;
-    list[4 * i + 3] = assign;
+    gatemurmur_record r = {kind, start, length, assign};
+    list[i] = r;
 }
 
 /* The first n records of the list over a text. */
 static gatemurmur_answer of_list(const char *s, size_t n, uint8_t level, uint8_t first, uint8_t last)
 {
     lend();
-    return gatemurmur_encode_segments((const uint8_t *)s, strlen(s), list, 4 * n, level, first, last, 3, false,
+    return gatemurmur_encode_segments((const uint8_t *)s, strlen(s), list, n, level, first, last, 3, false,
         grid, GATEMURMUR_GRID, scratch, GATEMURMUR_SCRATCH);
 }
 
@@ -158,7 +156,7 @@ static void reads(const char *what, gatemurmur_reading got, gatemurmur_reading w
     scratch_after(what, wanted.number == 0 || wanted.number >= 14);
     expect(what, "text that stays", all_are(text, (size_t)wanted.text, sizeof text, UNTOUCHED));
     expect(what, "records that stay",
-        all_are((const uint8_t *)records, 32 * (size_t)wanted.records, sizeof records, UNTOUCHED));
+        all_are((const uint8_t *)records, sizeof *records * (size_t)wanted.records, sizeof records, UNTOUCHED));
 }
 
 /* The grid shows this label: these characters, and the first n records of the list. */
@@ -166,9 +164,9 @@ static void reads_back(const char *what, uint8_t version, uint8_t level, uint8_t
 {
     size_t side = 4 * (size_t)version + 17;
     gatemurmur_reading wanted = {0, version, level, mask, n, length, 0, 0};
-    reads(what, read_grid(side * side, side, GATEMURMUR_TEXT, GATEMURMUR_RECORD_NUMBERS, GATEMURMUR_SCRATCH), wanted);
+    reads(what, read_grid(side * side, side, GATEMURMUR_TEXT, GATEMURMUR_RECORDS, GATEMURMUR_SCRATCH), wanted);
     expect(what, "characters", memcmp(text, chars, length) == 0);
-    expect(what, "records", memcmp(records, list, 32 * n) == 0);
+    expect(what, "records", memcmp(records, list, sizeof *records * n) == 0);
 }
 
 static void reads_refused(const char *what, gatemurmur_reading got, uint32_t number, uint64_t first)
@@ -425,17 +423,17 @@ static void refused_readings(void)
     set_record(0, ALPHANUMERIC, 0, 2, 0);
     set_record(1, BYTE, 2, 3, 0);
     answers("a label to read", of_list("ABxyz", 2, MEDIUM, 1, 1), label(1, MEDIUM, 3));
-    reads_refused("size 22", read_grid(441, 22, 5, 8, 0), 11, 22);
-    reads_refused("size 17", read_grid(441, 17, 5, 8, 0), 11, 17);
-    reads_refused("size 181", read_grid(441, 181, 5, 8, 0), 11, 181);
-    reads_refused("size above every grid", read_grid(441, SIZE_MAX, 5, 8, 0), 11, SIZE_MAX);
-    reads_refused("grid one short", read_grid(440, 21, 5, 8, 0), 12, 441);
-    reads_refused("grid one long", read_grid(442, 21, 5, 8, 0), 12, 441);
-    reads_refused("reading, scratch one short", read_grid(441, 21, 5, 8, 39999), 9, 40000);
-    reads_refused("text one short", read_grid(441, 21, 4, 7, 40000), 15, 5);
-    reads_refused("records one short", read_grid(441, 21, 5, 7, 40000), 16, 2);
+    reads_refused("size 22", read_grid(441, 22, 5, 2, 0), 11, 22);
+    reads_refused("size 17", read_grid(441, 17, 5, 2, 0), 11, 17);
+    reads_refused("size 181", read_grid(441, 181, 5, 2, 0), 11, 181);
+    reads_refused("size above every grid", read_grid(441, SIZE_MAX, 5, 2, 0), 11, SIZE_MAX);
+    reads_refused("grid one short", read_grid(440, 21, 5, 2, 0), 12, 441);
+    reads_refused("grid one long", read_grid(442, 21, 5, 2, 0), 12, 441);
+    reads_refused("reading, scratch one short", read_grid(441, 21, 5, 2, 39999), 9, 40000);
+    reads_refused("text one short", read_grid(441, 21, 4, 1, 40000), 15, 5);
+    reads_refused("records one short", read_grid(441, 21, 5, 1, 40000), 16, 2);
     gatemurmur_reading wanted = {0, 1, MEDIUM, 3, 2, 5, 0, 0};
-    reads("reading, buffers just long enough", read_grid(441, 21, 5, 8, 40000), wanted);
+    reads("reading, buffers just long enough", read_grid(441, 21, 5, 2, 40000), wanted);
     grid[200] ^= 1;
     reads_refused("one module flipped", read_grid(441, 21, 0, 0, 40000), 14, 0);
     grid[300] = 2;

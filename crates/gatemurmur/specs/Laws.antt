@@ -9,6 +9,7 @@ use lib.IntN.{ℤ}
 use mir.Syntax.{w32}
 use mir.Val.{SFits, toZ, ofZ}
 use mir.ValLaws.{toZ-ofZ}
+use Rattle.standard.specs.Segments.{Part}
 use Rattle.standard.specs.Encode.{refused, Return}
 use Rattle.standard.specs.Read.{unread, Reads}
 use Rattle.standard.specs.Module.{dark}
@@ -61,7 +62,7 @@ pub read-label-told : (o : ReadOutcome) (ver : Version) (ecl : QrCodeEcc) (msk :
     → _≡_ {A = ReadingNumbers} (record { number = 0; version = v; level = l; mask = m; records = n; text = k; first = 0; second = 0 }) (readingAs (readAnswerOf o))
 read-label-told o ver ecl msk n k v l m p a b c = rw (p, a, b, c)
 
-pub read-told : (r : ReadingNumbers) (o : ReadOutcome) (g : List ℕ) (size : ℕ) (t n s t′ n′ s′ : List ℕ) → r ≡ readingAs (readAnswerOf o)
+pub read-told : (r : ReadingNumbers) (o : ReadOutcome) (g : List ℕ) (size : ℕ) (t : List ℕ) (n : List Part) (s t′ : List ℕ) (n′ : List Part) (s′ : List ℕ) → r ≡ readingAs (readAnswerOf o)
     → Reads g size t n s (readOf o t′ n′ s′) → Tells g size t n s (record { answer = r; text = t′; records = n′; scratch = s′ })
 read-told r o g size t n s t′ n′ s′ p q =
     record {

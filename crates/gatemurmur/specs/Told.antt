@@ -3,6 +3,7 @@
 use Prim.Native.Nat.{ℕ}
 use mathlib.Core.List.{List}
 use mathlib.Core.Path.{_≡_}
+use Rattle.standard.specs.Segments.{Part}
 use Rattle.standard.specs.Encode.{Answer, refused, accepted, Return}
 use Rattle.standard.specs.Read.{Reading, unread, readAs, Read, Reads}
 use Rattle.gatemurmur.specs.declared.Answer.{Answer as AnswerNumbers}
@@ -41,7 +42,7 @@ readingAs (readAs v l m n k) =
 pub record ReadTold : Type 0 where
   pub answer : ReadingNumbers
   pub text : List ℕ
-  pub records : List ℕ
+  pub records : List Part
   pub scratch : List ℕ
 
 abbrev pub readTold : Read → ReadTold
@@ -49,7 +50,7 @@ readTold r =
     record { answer = readingAs (r .answer); text = r .text; records = r .records; scratch = r .scratch }
 
 -- what is told is what the reader's relation allows
-pub record Tells (g : List ℕ) (s : ℕ) (text records scratch : List ℕ) (out : ReadTold) : Type 0 where
+pub record Tells (g : List ℕ) (s : ℕ) (text : List ℕ) (records : List Part) (scratch : List ℕ) (out : ReadTold) : Type 0 where
   pub outcome : Read
   pub reads : Reads g s text records scratch outcome
   pub tells : out ≡ readTold outcome

@@ -1,12 +1,14 @@
 // The functions for C and Rust: the encoder's entries, the strict reader and the module question, exported. An exported
 // function has no enum, so an answer goes out as a struct of numbers. `include/gatemurmur.h` is their header.
+// The two functions with a slice of records are proved by hand.
 mod answers; // answers.rt: the encoder's answers as numbers
 mod readings; // readings.rt: the reader's answers as numbers
 
+use records::Record;
 ghost use mathlib.Core.Path.{_≡_};
 ghost use Rattle.standard.specs.Encode.{encode, encodeText, encodeBytes, encodeCodewords};
 ghost use Rattle.standard.specs.Module.{dark};
-ghost use Rattle.segments.specs.Records.{partsOf};
+ghost use Rattle.records.specs.Records.{parts};
 ghost use Rattle.gatemurmur.specs.Told.{told, Tells};
 
 // What an encoding function answers.
@@ -92,11 +94,11 @@ pub extern "C" fn gatemurmur_encode_binary(
     answers::of_outcome(o)
 }
 
-// Draws a label of the given records over one text, four numbers to a record: kind, start, length and assign.
+// Draws a label of the given records over one text.
 #[no_mangle]
 pub extern "C" fn gatemurmur_encode_segments(
     text: &[u8],
-    records: &[u64],
+    records: &[Record],
     level: u8,
     minversion: u8,
     maxversion: u8,
@@ -105,9 +107,9 @@ pub extern "C" fn gatemurmur_encode_segments(
     grid: &mut [u8],
     scratch: &mut [u8],
 ) -> Answer
-    ensures { λ r. ⌜ record { answer = r; grid = now (grid .exit); scratch = now (scratch .exit) } ≡ told (encode level minversion maxversion mask boostecl (now (text .entry)) (partsOf (now (records .entry))) (now (grid .entry)) (now (scratch .entry))) ⌝ }
+    ensures { λ r. ⌜ record { answer = r; grid = now (grid .exit); scratch = now (scratch .exit) } ≡ told (encode level minversion maxversion mask boostecl (now (text .entry)) (parts (now (records .entry))) (now (grid .entry)) (now (scratch .entry))) ⌝ }
 {
-    let o = encoder::encode_segments_advanced(
+    let o = records::encode_segments_advanced(
         text,
         records,
         level,
@@ -145,17 +147,17 @@ pub extern "C" fn gatemurmur_get_module(grid: &[u8], size: usize, x: i32, y: i32
     modules::get_module(grid, size, x, y)
 }
 
-// Reads the label that a grid shows, its characters into text and its records, four numbers to each, into records.
+// Reads the label that a grid shows, its characters into text and its records into records.
 #[no_mangle]
 pub extern "C" fn gatemurmur_read(
     grid: &[u8],
     size: usize,
     text: &mut [u8],
-    records: &mut [u64],
+    records: &mut [Record],
     scratch: &mut [u8],
 ) -> Reading
-    ensures { λ r. ⌜ Tells (now (grid .entry)) size (now (text .entry)) (now (records .entry)) (now (scratch .entry)) (record { answer = r; text = now (text .exit); records = now (records .exit); scratch = now (scratch .exit) }) ⌝ }
+    ensures { λ r. ⌜ Tells (now (grid .entry)) size (now (text .entry)) (parts (now (records .entry))) (now (scratch .entry)) (record { answer = r; text = now (text .exit); records = parts (now (records .exit)); scratch = now (scratch .exit) }) ⌝ }
 {
-    let o = reader::read(grid, size, text, records, scratch);
+    let o = records::read(grid, size, text, records, scratch);
     readings::of_outcome(o)
 }

@@ -68,7 +68,7 @@ pub fn line_penalty(grid: &[u8], start: usize, step: usize, side: usize) -> u32
             run += 1;
             result += growth(run);
         } else {
-            runhistory = runhistory.add_history(run);
+            runhistory = runhistory.push(run);
             result += PENALTY_N3 * light_patterns(runhistory, runcolor);
             runcolor = color;
             run = 1;
@@ -96,7 +96,7 @@ fn light_patterns(runhistory: FinderPenalty, runcolor: u8) -> u32
     ensures { λ r. ⌜ (r ≡ cond (eqb runcolor 0) (patterns (runhistory .«run_history»)) 0) × (r ≤ 2) ⌝ }
 {
     if runcolor == 0 {
-        return runhistory.count_patterns();
+        return runhistory.count();
     }
     0
 }
@@ -210,8 +210,8 @@ impl FinderPenalty {
         }
     }
 
-    // Pushes the given value to the front and drops the last value; the first one has the light border added.
-    pub fn add_history(self, currentrunlength: u32) -> Self
+    // The work of add_history, by value.
+    fn push(self, currentrunlength: u32) -> Self
         requires { ⌜ currentrunlength + self .«qr_size» < 65536 ⌝ }
         ensures { λ r. ⌜ r ≡ pushed self currentrunlength ⌝ }
     {
@@ -229,8 +229,16 @@ impl FinderPenalty {
         }
     }
 
-    // Can only be called immediately after a light run is added, and returns either 0, 1, or 2.
-    pub fn count_patterns(self) -> u32
+    // Pushes the given value to the front and drops the last value; the first one has the light border added.
+    pub fn add_history(&mut self, currentrunlength: u32)
+        requires { ⌜ currentrunlength + now self .«qr_size» < 65536 ⌝ }
+        ensures { λ _. ⌜ now (self .exit) ≡ pushed (now (self .entry)) currentrunlength ⌝ }
+    {
+        *self = (*self).push(currentrunlength);
+    }
+
+    // The work of count_patterns, by value.
+    fn count(self) -> u32
         requires { ⌜ getD (self .«run_history») 1 0 < 65536 ⌝ }
         ensures { λ r. ⌜ (r ≡ patterns (self .«run_history»)) × (r ≤ 2) ⌝ }
     {
@@ -254,6 +262,14 @@ impl FinderPenalty {
         wide(rh[0], rh[6], n) + wide(rh[6], rh[0], n)
     }
 
+    // Can only be called immediately after a light run is added, and returns either 0, 1, or 2.
+    pub fn count_patterns(&self) -> u32
+        requires { ⌜ getD (now self .«run_history») 1 0 < 65536 ⌝ }
+        ensures { λ r. ⌜ (r ≡ patterns (now (self .entry) .«run_history»)) × (r ≤ 2) ⌝ }
+    {
+        (*self).count()
+    }
+
     // Must be called at the end of a line (row or column) of modules.
     pub fn terminate_and_count(self, currentruncolor: bool, currentrunlength: u32) -> u32
         requires { ⌜ (currentrunlength + self .«qr_size» + self .«qr_size» < 65536) × (getD (self .«run_history») 0 0 < 65536) ⌝ }
@@ -261,12 +277,12 @@ impl FinderPenalty {
     {
         let size = self.qr_size;
         if currentruncolor {
-            let dark = self.add_history(currentrunlength);
-            let last = dark.add_history(size);
-            return last.count_patterns();
+            let dark = self.push(currentrunlength);
+            let last = dark.push(size);
+            return last.count();
         }
-        let last = self.add_history(currentrunlength + size);
-        last.count_patterns()
+        let last = self.push(currentrunlength + size);
+        last.count()
     }
 }
 

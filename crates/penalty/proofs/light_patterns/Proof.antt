@@ -6,8 +6,8 @@ use borrow.Author.Needs.{needs}
 use Rattle.penalty.proofs.light_patterns.Statement.{statement}
 use Rattle.penalty.proofs.light_patterns.Tie as tie
 
-count-patterns-requires : tie.Need-count-patterns-requires
-count-patterns-requires c κs = search needs
+count-requires : tie.Need-count-requires
+count-requires c κs = search needs
 
 returns : tie.Need-returns
 returns c = search (cond-true, eq-eqb, needs)
@@ -16,4 +16,4 @@ returns-2 : tie.Need-returns-2
 returns-2 c = search (cond-false, ne-eqb, needs)
 
 pub light-patterns-spec : {M : Type 1} → statement M
-light-patterns-spec = tie.close (tie.spec count-patterns-requires returns returns-2)
+light-patterns-spec = tie.close (tie.spec count-requires returns returns-2)

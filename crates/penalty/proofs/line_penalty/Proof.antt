@@ -46,11 +46,11 @@ growth-requires c κs = search needs
 add-result : tie.Need-add-result Inv-loop μ-loop
 add-result c = omega (arith, scan-le _ _ _ _ _ _ _ (c .before .before .before .before .loop .inv .1) (omega arith) (omega arith))
 
-add-history-requires : tie.Need-add-history-requires Inv-loop μ-loop
-add-history-requires c κs = omega arith
+push-requires : tie.Need-push-requires Inv-loop μ-loop
+push-requires c κs = omega arith
 
 light-patterns-requires : tie.Need-light-patterns-requires Inv-loop μ-loop
-light-patterns-requires c κs = second-fits _ _ _ _ (c .add-history .ensures) (omega arith)
+light-patterns-requires c κs = second-fits _ _ _ _ (c .push .ensures) (omega arith)
 
 mul-result : tie.Need-mul-result Inv-loop μ-loop
 mul-result c = search needs
@@ -103,7 +103,7 @@ line-penalty-spec =
     add-run
     growth-requires
     add-result
-    add-history-requires
+    push-requires
     light-patterns-requires
     mul-result
     add-result-2
