@@ -50,7 +50,7 @@ pub const TEXT: usize = 7_089;
 /// The mask number that asks for the automatic choice.
 pub const MASK_AUTO: u8 = 8;
 
-// A slice is two parameters in C, the pointer and the length. Records go as numbers, four to a record.
+// A slice is two parameters in C, the pointer and the length.
 extern "C" {
     fn gatemurmur_encode_text(
         text: *const u8,
@@ -83,7 +83,7 @@ extern "C" {
     fn gatemurmur_encode_segments(
         text: *const u8,
         text_length: usize,
-        records: *const u64,
+        records: *const Record,
         records_length: usize,
         level: u8,
         minversion: u8,
@@ -116,15 +116,12 @@ extern "C" {
         size: usize,
         text: *mut u8,
         text_length: usize,
-        records: *mut u64,
+        records: *mut Record,
         records_length: usize,
         scratch: *mut u8,
         scratch_length: usize,
     ) -> Reading;
 }
-
-/// Numbers in a record, as C counts them.
-const NUMBERS: usize = 4;
 
 /// Draws a label of a text, any bytes, in the kind that the text rule gives it.
 #[allow(clippy::too_many_arguments)]
@@ -202,8 +199,8 @@ pub fn encode_segments(
         gatemurmur_encode_segments(
             text.as_ptr(),
             text.len(),
-            records.as_ptr().cast(),
-            records.len() * NUMBERS,
+            records.as_ptr(),
+            records.len(),
             level,
             minversion,
             maxversion,
@@ -248,8 +245,8 @@ pub fn read(grid: &[u8], size: usize, text: &mut [u8], records: &mut [Record], s
             size,
             text.as_mut_ptr(),
             text.len(),
-            records.as_mut_ptr().cast(),
-            records.len() * NUMBERS,
+            records.as_mut_ptr(),
+            records.len(),
             scratch.as_mut_ptr(),
             scratch.len(),
         )
