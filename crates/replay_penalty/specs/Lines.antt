@@ -1,13 +1,12 @@
--- The grid of a case by its side as a number, and its packed lines.
+-- The grid of a case by its side as a number.
 -- Assumes nothing.
 use mathlib.Core.Path.{_≡_, ap, _∙_}
 use mathlib.Core.List.{List}
-use Prim.Native.Nat.{ℕ, _+_, _*_, _≤_, _<_}
+use Prim.Native.Nat.{ℕ, _*_, _≤_}
 use native.Mathlib.Omega.{arith}
 use lib.ListN.{length}
 use Rattle.laws.specs.Grid.{Square, paint, length-paint}
 use Rattle.modules.specs.Mask.{masked}
-use Rattle.packed.specs.Stored.{RowHeld, ColumnHeld, HeldRows, HeldColumns}
 
 pub square-size : (s n : ℕ) (g : List ℕ) → Square g n → s ≡ n → length g ≡ s * s
 square-size s n g sq q = rw q (sq .size)
@@ -20,9 +19,3 @@ square-of s n g e q l = record { size = rw (← q) e; small = l }
 
 pub masked-size : (s n m : ℕ) (g h : List ℕ) → h ≡ paint n (masked m) g → Square g n → s ≡ n → length h ≡ s * s
 masked-size s n m g h e sq q = ap length e ∙ length-paint n (masked m) g ∙ square-size s n g sq q
-
-pub rows-packed : (s : ℕ) (g ws : List ℕ) → length ws ≡ 6 * s → ((k : ℕ) → k < s → RowHeld s g ws k) → HeldRows s g ws
-rows-packed s g ws size held = record { size = size; lines = λ k low high. held k (omega arith) }
-
-pub columns-packed : (s : ℕ) (g ws : List ℕ) → length ws ≡ 6 * s → ((k : ℕ) → k < s → ColumnHeld s g ws k) → HeldColumns s g ws
-columns-packed s g ws size held = record { size = size; lines = λ k low high. held k (omega arith) }

@@ -1,7 +1,8 @@
 -- `replay_penalty::score_packed` meets its contract.
 -- Assumes nothing.
 use native.Mathlib.Omega.{arith}
-use Rattle.replay_penalty.specs.Lines.{masked-size, rows-packed, columns-packed}
+use Rattle.packed.specs.Stored.{rows-held, columns-held}
+use Rattle.replay_penalty.specs.Lines.{masked-size}
 use borrow.Author.Needs.{needs}
 use Rattle.replay_penalty.proofs.score_packed.Statement.{statement}
 use Rattle.replay_penalty.proofs.score_packed.Tie as tie
@@ -24,7 +25,7 @@ pack-columns-requires c κs = (omega arith, search (masked-size, needs), omega a
 get-penalty-score-requires : tie.Need-get-penalty-score-requires
 get-penalty-score-requires c κs = (
   (omega arith, omega arith, search needs, search (masked-size, needs)),
-  (search (rows-packed, needs), search (columns-packed, needs)),
+  (search (rows-held, needs), search (columns-held, needs)),
 )
 
 same-length : tie.Need-same-length
