@@ -2,7 +2,7 @@
 -- Assumes nothing.
 use Prim.Native.Nat.{ℕ, _+_, _*_, _%_, _≤_, _<_}
 use mathlib.Core.List.{List}
-use mathlib.Core.Path.{_≡_, refl, sym, ap, _∙_}
+use mathlib.Core.Path.{_≡_, refl, ap, _∙_}
 use native.Mathlib.Omega.{arith}
 use lib.ListN.{length}
 use borrow.Author.Tests.{lt-ltb}
@@ -14,8 +14,8 @@ use Rattle.standard.specs.Choice.{scores, chosen}
 use Rattle.laws.specs.Grid.{Square, paint, length-paint}
 use Rattle.laws.specs.Each.{each}
 use Rattle.patterns.specs.Layers.{formats}
-use Rattle.modules.specs.Mask.{masked, masked-twice}
-use Rattle.modules.specs.Work.{work, work-length, maskContent, mask-work, content-small}
+use Rattle.modules.specs.Mask.{masked}
+use Rattle.modules.specs.Work.{work, maskContent, mask-work, content-small}
 use Rattle.modules.specs.Finished.{finish-work, reformat, label-drawn}
 use Rattle.penalty.specs.Lines.{colours}
 use Rattle.penalty.specs.Bounds.{penalty-le}

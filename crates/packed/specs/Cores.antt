@@ -2,21 +2,21 @@
 -- Assumes nothing.
 use mathlib.Core.Path.{_≡_, refl, sym, ap, ap₂, _∙_, subst}
 use mathlib.Core.List.{List, [], _∷_, _++_, append-assoc}
-use mathlib.Core.Bool.{Bool, true, false, cond, _&&_, not}
+use mathlib.Core.Bool.{Bool, true, false, cond, _&&_}
 use Prim.Native.Nat.{ℕ, zero, suc, _+_, _-_, _*_, _/_, _≤_, _<_}
 use native.Mathlib.Nat.{not-suc-le-zero, le-of-suc-le-suc}
 use native.Mathlib.Omega.{arith}
 use lib.Dec.{eqb, leb, lit<, lit≤}
 use lib.ListN.{length, getD, replicate}
-use borrow.Author.Tests.{eqb-true, eqb-false, eq-eqb, ne-eqb, le-leb, lt-leb, leb-true, leb-false}
-use Rattle.standard.specs.Numbers.{one, sum, from, tabulate}
+use borrow.Author.Tests.{eqb-true, ne-eqb, le-leb, lt-leb, leb-false}
+use Rattle.standard.specs.Numbers.{one, sum, tabulate}
 use Rattle.standard.specs.Penalty.{runsFrom, runs, coreCount, coreAt, cores, bordered}
 use Rattle.laws.specs.Tests.{and-first, and-second}
 use Rattle.laws.specs.Sums.{sum-cong, sum-shift}
 use Rattle.penalty.specs.Scan.{Modules, zeros-run}
 use Rattle.penalty.specs.Windows.{is}
-use Rattle.packed.specs.Marks.{pre, hits}
-use Rattle.packed.specs.Windows.{other, lay, Runs, shape, fits, windows, hits-windows, lay-runs, runs-positive, borders}
+use Rattle.packed.specs.Marks.{hits}
+use Rattle.packed.specs.Windows.{lay, Runs, shape, fits, windows, hits-windows, lay-runs, runs-positive, borders}
 
 -- ---- `cores`, one window at a time
 

@@ -1,15 +1,15 @@
 -- Where a pattern stands in a line: the places as the digits of a number, and how many they are.
 -- Assumes nothing.
-use mathlib.Core.Path.{_≡_, refl, sym, ap, ap₂, _∙_, subst}
+use mathlib.Core.Path.{_≡_, refl, sym, ap, ap₂, _∙_}
 use mathlib.Core.List.{List, [], _∷_, _++_}
-use mathlib.Core.Bool.{Bool, true, false, _&&_, not}
-use Prim.Native.Nat.{ℕ, zero, suc, _+_, _-_, _*_, _/_, _%_, _^_, _≤_, _<_, min}
+use mathlib.Core.Bool.{Bool, true, false, _&&_}
+use Prim.Native.Nat.{ℕ, zero, suc, _+_, _*_, _/_, _%_, _^_, _<_, min}
 use native.Mathlib.Nat.{div-one, zero-div, div-add-mod'}
 use native.Mathlib.Numerals.{add-one}
 use lib.Seq.{drop-drop}
 use native.Mathlib.Omega.{arith}
 use lib.Arith.{digits-mod, digits-div}
-use lib.Bits.{bitXor, bitAnd, bitOr, and-step, and-zero-l, differ, or-add-and, and-le-l, and-le-r}
+use lib.Bits.{bitAnd, bitOr, and-step, and-zero-l, differ, or-add-and, and-le-l, and-le-r}
 use lib.Count.{ones, ones-step}
 use lib.Dec.{eqb, lit<}
 use lib.ListN.{length, drop}
@@ -17,7 +17,7 @@ use lib.Pow.{shr-shr}
 use Rattle.standard.specs.Numbers.{one}
 use Rattle.penalty.specs.Scan.{Modules}
 use Rattle.penalty.specs.Windows.{is}
-use Rattle.packed.specs.Digits.{value, low, value-odd, value-half, low-half, low-odd, and-odd}
+use Rattle.packed.specs.Digits.{value, low, value-odd, value-half, low-half, low-odd}
 use Rattle.packed.specs.Cost.{without, without-half, without-odd}
 
 -- the pattern stands first

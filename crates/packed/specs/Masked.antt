@@ -2,14 +2,14 @@
 -- Assumes nothing.
 use mathlib.Core.Path.{_≡_, refl, sym, ap, ap₂, _∙_}
 use mathlib.Core.List.{List}
-use mathlib.Core.Bool.{Bool, true, false, cond}
-use Prim.Native.Nat.{ℕ, zero, suc, _+_, _-_, _*_, _/_, _%_, _^_, _≤_, _<_, min}
+use mathlib.Core.Bool.{Bool, true, false}
+use Prim.Native.Nat.{ℕ, zero, suc, _+_, _-_, _*_, _%_, _≤_, _<_, min}
 use native.Mathlib.Nat.{div-add-mod', zero-lt-suc, not-suc-le-zero, le-of-suc-le-suc}
 use native.Mathlib.Omega.{arith}
 use lib.Bits.{bitXor, bitAnd, differ, and-zero-l, xor-block, and-block}
 use lib.Dec.{ltb}
 use lib.ListN.{length, getD}
-use borrow.Author.Tests.{ltb-true, ltb-false}
+use borrow.Author.Tests.{ltb-true}
 use Rattle.standard.specs.Numbers.{one, from, tabulate}
 use Rattle.standard.specs.Masks.{inverts}
 use Rattle.standard.specs.Penalty.{moduleOf, row, column}
@@ -22,7 +22,7 @@ use Rattle.penalty.specs.Lines.{colours, colour-at}
 use Rattle.packed.specs.Digits.{value, value-odd, value-half, and-half, and-odd}
 use Rattle.packed.specs.Frame.{frame, value-frame}
 use Rattle.packed.specs.Packs.{digitOf, digitAt, at-lt}
-use Rattle.packed.specs.Masks.{twelve, spread, rowMask, columnMask, row-mask, column-mask}
+use Rattle.packed.specs.Masks.{twelve, spread, row-mask, column-mask}
 
 -- ---- digit by digit
 

@@ -79,7 +79,7 @@ word-more f k n w e = ap (λ (v : ℕ). v * 2 + f k) e
 pub word-lt : (f : ℕ → ℕ) → ((i : ℕ) → f i < 2) → (k n m : ℕ) → n ≤ m → value (from k n f) < 2 ^ m
 word-lt f h k n m l = lt-of-lt-of-le (value-lt (from k n f) (from-modules f h k n)) (pow-mono {i = length (from k n f)} {j = m} (omega (arith, length-from k n f)))
 
-split2 : (f : ℕ → ℕ) (k a n : ℕ) → value (from k (a + n) f) ≡ value (from (k + a) n f) * 2 ^ a + value (from k a f)
+pub split2 : (f : ℕ → ℕ) (k a n : ℕ) → value (from k (a + n) f) ≡ value (from (k + a) n f) * 2 ^ a + value (from k a f)
 split2 f k a n =
     ap value (from-append k a n f) ∙ value-append (from k a f) (from (k + a) n f)
     ∙ ap (λ (m : ℕ). value (from (k + a) n f) * 2 ^ m + value (from k a f)) (length-from k a f)

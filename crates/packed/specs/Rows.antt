@@ -1,9 +1,8 @@
 -- The rows and columns of a grid, one line after the other: what they cost, the squares between rows, the dark modules.
 -- Assumes nothing.
 use mathlib.Core.Path.{_≡_, refl, sym, ap, ap₂, _∙_}
-use mathlib.Core.Bool.{false}
 use mathlib.Core.List.{List, [], _∷_, _++_}
-use Prim.Native.Nat.{ℕ, zero, suc, _+_, _-_, _*_, _/_, _%_, _≤_, _<_}
+use Prim.Native.Nat.{ℕ, zero, suc, _+_, _-_, _*_, _%_, _≤_, _<_}
 use native.Mathlib.Nat.{mod-lt, zero-lt-suc, zero-add}
 use native.Mathlib.Numerals.{add-one}
 use native.Mathlib.Omega.{arith}
@@ -15,25 +14,13 @@ use Rattle.laws.specs.Lists.{length-tabulate}
 use Rattle.laws.specs.Sums.{sum-append, sum-cong, sum-shift, sum-blocks, sum-le, sum-next, sum-end}
 use Rattle.laws.specs.Each.{each}
 use Rattle.penalty.specs.Scan.{Modules}
-use Rattle.penalty.specs.Lines.{colours, colour-at, along, row-along, column-along, from-modules}
+use Rattle.penalty.specs.Lines.{colours, colour-at, from-modules}
 use Rattle.packed.specs.Digits.{value, value-odd, value-half}
 use Rattle.packed.specs.Cores.{four-modules}
 use Rattle.packed.specs.Frame.{frame, lineOf, Framed, framed, line-of-frame}
-use Rattle.packed.specs.Packs.{digitOf, digitAt}
 use Rattle.packed.specs.Squares.{squaresOf, squares-rows}
 
 -- ---- one line
-
--- a packed line of colours
-colours-along : (s : ℕ) (g : List ℕ) (start step : ℕ) → tabulate s (digitAt false g start step) ≡ tabulate s (along g start step)
-unfolding digitAt digitOf along
-colours-along s g start step = refl
-
-pub row-packed : (s : ℕ) (g : List ℕ) (y v : ℕ) → v ≡ value (frame (tabulate s (digitAt false g (y * s) 1))) → v ≡ value (frame (row s (colours g) y))
-row-packed s g y v e = e ∙ ap (λ (xs : List ℕ). value (frame xs)) (colours-along s g (y * s) 1 ∙ row-along s g y)
-
-pub column-packed : (s : ℕ) (g : List ℕ) (x v : ℕ) → v ≡ value (frame (tabulate s (digitAt false g x s))) → v ≡ value (frame (column s (colours g) x))
-column-packed s g x v e = e ∙ ap (λ (xs : List ℕ). value (frame xs)) (colours-along s g x s ∙ column-along s g x)
 
 colour-lt : (s : ℕ) (g : List ℕ) (x y : ℕ) → moduleOf s (colours g) x y < 2
 unfolding moduleOf

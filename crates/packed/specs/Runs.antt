@@ -2,14 +2,12 @@
 -- Assumes nothing.
 use mathlib.Core.Path.{_≡_, refl, sym, ap, _∙_}
 use mathlib.Core.List.{List, [], _∷_, _++_, map}
-use mathlib.Core.Bool.{Bool, true, false, cond, _&&_, not}
-use mathlib.Core.Logic.{_⊎_, inl, inr}
-use Prim.Native.Nat.{ℕ, zero, suc, _+_, _-_, _*_, _≤_, _<_}
+use mathlib.Core.Bool.{Bool, true, false, _&&_, not}
+use Prim.Native.Nat.{ℕ, zero, suc, _+_, _*_}
 use native.Mathlib.Omega.{arith}
-use native.Mathlib.Decide.{decLt}
 use lib.Dec.{leb, eqb, leb·zero, leb·suc-zero, leb·suc-suc}
-use lib.ListN.{length, replicate}
-use borrow.Author.Tests.{eqb-true, eq-eqb, le-leb, lt-leb}
+use lib.ListN.{replicate}
+use borrow.Author.Tests.{eqb-true, eq-eqb, le-leb}
 use Rattle.standard.specs.Numbers.{one, sum}
 use Rattle.standard.specs.Penalty.{runsFrom, runs, runCost}
 

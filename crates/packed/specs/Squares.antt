@@ -1,15 +1,15 @@
 -- The squares of one colour between two rows.
 -- Assumes nothing.
-use mathlib.Core.Path.{_≡_, refl, sym, ap, ap₂, _∙_, subst}
-use mathlib.Core.List.{List, [], _∷_, _++_}
-use mathlib.Core.Bool.{Bool, true, false, _&&_}
-use Prim.Native.Nat.{ℕ, zero, suc, _+_, _-_, _*_, _/_, _%_, _^_, _≤_, _<_, min, max}
+use mathlib.Core.Path.{_≡_, refl, sym, ap, ap₂, _∙_}
+use mathlib.Core.List.{List, [], _∷_}
+use mathlib.Core.Bool.{Bool, _&&_}
+use Prim.Native.Nat.{ℕ, zero, suc, _+_, _-_, _/_, _%_, _<_, min, max}
 use native.Mathlib.Omega.{arith}
-use lib.Bits.{bitXor, bitAnd, bitOr, differ, and-zero-l}
+use lib.Bits.{bitXor, bitOr, differ, and-zero-l}
 use lib.Count.{ones, ones-step}
 use lib.Dec.{eqb, eqb→eq}
 use lib.ListN.{length}
-use Rattle.standard.specs.Numbers.{one, sum, from, tabulate}
+use Rattle.standard.specs.Numbers.{one, sum, from}
 use Rattle.standard.specs.Penalty.{moduleOf, row, square, squares}
 use Rattle.laws.specs.Xor.{xor-half, xor-odd}
 use Rattle.laws.specs.Computed.{among, below}

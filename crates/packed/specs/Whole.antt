@@ -1,19 +1,18 @@
 -- The cost of a line from its number.
 -- Assumes nothing.
-use mathlib.Core.Path.{_≡_, refl, sym, ap, ap₂, _∙_, subst}
-use mathlib.Core.List.{List, [], _∷_, _++_, map}
-use Prim.Native.Nat.{ℕ, zero, suc, _+_, _-_, _*_, _/_, _%_, _^_, _≤_, _<_}
+use mathlib.Core.Path.{_≡_, sym, ap, ap₂, _∙_}
+use mathlib.Core.List.{List, [], _∷_, map}
+use Prim.Native.Nat.{ℕ, _+_, _-_, _*_, _/_, _^_, _≤_}
 use native.Mathlib.Omega.{arith}
-use lib.ListN.{length, replicate}
 use lib.Count.{ones}
-use Rattle.standard.specs.Numbers.{one, sum}
+use Rattle.standard.specs.Numbers.{sum}
 use Rattle.standard.specs.Penalty.{runs, runCost, cores, bordered, lineCost}
 use Rattle.penalty.specs.Scan.{Modules}
 use Rattle.penalty.specs.Bounds.{line-le}
-use Rattle.packed.specs.Digits.{value, low}
+use Rattle.packed.specs.Digits.{low}
 use Rattle.packed.specs.Runs.{runs-cost}
 use Rattle.packed.specs.Cost.{without, fives, wordCost, word-cost}
-use Rattle.packed.specs.Marks.{marks, hits, marks-dark, marks-light, marks-hits, no-hits}
+use Rattle.packed.specs.Marks.{marks, hits, marks-dark, marks-light}
 use Rattle.packed.specs.Cores.{before, behind, pairs, triples, larger, few-cores, four-modules}
 use Rattle.packed.specs.Squares.{uneven, squaresOf, squares-count}
 use Rattle.packed.specs.Frame.{frame, lineOf, Framed, value-line, line-modules, line-length, frame-length}

@@ -1,17 +1,17 @@
 -- The places of a pattern in a line, from the line's runs.
 -- Assumes nothing.
-use mathlib.Core.Path.{_≡_, refl, sym, ap, ap₂, _∙_, subst}
+use mathlib.Core.Path.{_≡_, refl, sym, ap, ap₂, _∙_}
 use mathlib.Core.List.{List, [], _∷_, _++_, append-assoc}
-use mathlib.Core.Bool.{Bool, true, false, cond, _&&_, not}
-use Prim.Native.Nat.{ℕ, zero, suc, _+_, _-_, _*_, _/_, _≤_, _<_}
-use native.Mathlib.Nat.{not-suc-le-zero, le-of-suc-le-suc, eq-or-lt-of-le}
+use mathlib.Core.Bool.{Bool, true, false, _&&_}
+use Prim.Native.Nat.{ℕ, zero, suc, _+_, _≤_, _<_}
+use native.Mathlib.Nat.{le-of-suc-le-suc, eq-or-lt-of-le}
 use mathlib.Core.Logic.{⊎-elim}
 use native.Mathlib.Omega.{arith}
 use lib.Dec.{eqb, leb, leb·zero, leb·suc-zero, leb·suc-suc, eqb·zero-suc, eqb·suc-zero, eqb·suc-suc}
-use lib.ListN.{length, replicate}
-use borrow.Author.Tests.{eqb-true, eqb-false, eq-eqb, ne-eqb, le-leb, lt-leb, leb-true, leb-false}
+use lib.ListN.{replicate}
+use borrow.Author.Tests.{eqb-true, eqb-false, eq-eqb, le-leb, lt-leb, leb-true, leb-false}
 use Rattle.standard.specs.Numbers.{one}
-use Rattle.standard.specs.Penalty.{runsFrom, runs}
+use Rattle.standard.specs.Penalty.{runsFrom}
 use Rattle.penalty.specs.Scan.{Modules}
 use Rattle.packed.specs.Runs.{grown}
 use Rattle.packed.specs.Marks.{pre, hits}
@@ -85,11 +85,6 @@ shape-starts (suc (suc c)) (suc k ∷ ks) l zs h p q = absurd (omega arith)
 other-lt : (c : ℕ) → other c < 2
 other-lt zero = omega arith
 other-lt (suc c) = omega arith
-
-twice : (c : ℕ) → c < 2 → other (other c) ≡ c
-twice zero h = refl
-twice (suc zero) h = refl
-twice (suc (suc c)) h = absurd (omega arith)
 
 none-left : (l c : ℕ) → 0 < l → pre (replicate l c) [] ≡ false
 unfolding pre

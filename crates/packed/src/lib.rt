@@ -22,7 +22,7 @@ ghost use Rattle.packed.specs.Squares.{squaresOf};
 ghost use Rattle.packed.specs.Whole.{zone};
 ghost use Rattle.packed.specs.Packs.{digitOf, digitAt};
 ghost use Rattle.packed.specs.Masks.{twelve, spread};
-ghost use Rattle.packed.specs.Stored.{lineAt, put, RowHeld, ColumnHeld, HeldRows, HeldColumns};
+ghost use Rattle.packed.specs.Stored.{lineAt, put, RowHeld, ColumnHeld, HeldRows, HeldColumns, patched};
 
 mod masks; // masks.rt: the lines of the eight masks
 
@@ -416,34 +416,49 @@ fn masked_line(color: Line, free: Line, inverted: Line) -> Line
     xor(color, and(free, inverted))
 }
 
-// Row y of the masked grid, framed. Rows that hold no format bits are taken from the words, the others from the grid.
+// A framed line with another module 8.
+fn patch(line: Line, digit: u64) -> Line
+    requires { ⌜ digit ≤ 1 ⌝ }
+    ensures { λ r. ⌜ whole r ≡ patched (whole line) digit ⌝ }
+{
+    let old = line.a / 4096 % 2;
+    Line {
+        a: line.a - old * 4096 + digit * 4096,
+        b: line.b,
+        c: line.c,
+    }
+}
+
+// Row y of the masked grid, framed. Format bits stand in row 8 and column 8 alone: row 8 is packed anew, of the others module 8.
 fn row_line(grid: &[u8], words: &[u64], side: usize, msk: usize, y: usize) -> Line
-    requires { ⌜ (y < side) × (side ≤ 177) × (msk < 8) × (length (now grid) ≡ side * side) × HeldRows side (now grid) (now words) ⌝ }
+    requires { ⌜ (y < side) × (9 ≤ side) × (side ≤ 177) × (msk < 8) × (length (now grid) ≡ side * side) × HeldRows side (now grid) (now words) ⌝ }
     ensures { λ r. ⌜ whole r ≡ value (frame (row side (colours (paint side (masked msk) (now (grid .entry)))) y)) ⌝ }
 {
     let inverted = mask_line(msk, y);
-    if y > 8 {
-        if y + 8 < side {
-            return masked_line(load(words, 6 * y), load(words, 6 * y + 3), inverted);
-        }
+    if y == 8 {
+        let color = pack(grid, y * side, 1, side, false);
+        return masked_line(color, pack(grid, y * side, 1, side, true), inverted);
     }
-    let color = pack(grid, y * side, 1, side, false);
-    masked_line(color, pack(grid, y * side, 1, side, true), inverted)
+    let byte = grid[y * side + 8];
+    let color = patch(load(words, 6 * y), digit_of(byte, false));
+    let free = patch(load(words, 6 * y + 3), digit_of(byte, true));
+    masked_line(color, free, inverted)
 }
 
 // Column x of the masked grid likewise.
 fn column_line(grid: &[u8], words: &[u64], side: usize, msk: usize, x: usize) -> Line
-    requires { ⌜ (x < side) × (side ≤ 177) × (msk < 8) × (length (now grid) ≡ side * side) × HeldColumns side (now grid) (now words) ⌝ }
+    requires { ⌜ (x < side) × (9 ≤ side) × (side ≤ 177) × (msk < 8) × (length (now grid) ≡ side * side) × HeldColumns side (now grid) (now words) ⌝ }
     ensures { λ r. ⌜ whole r ≡ value (frame (column side (colours (paint side (masked msk) (now (grid .entry)))) x)) ⌝ }
 {
     let inverted = mask_line(8 + msk, x);
-    if x > 8 {
-        if x + 8 < side {
-            return masked_line(load(words, 6 * x), load(words, 6 * x + 3), inverted);
-        }
+    if x == 8 {
+        let color = pack(grid, x, side, side, false);
+        return masked_line(color, pack(grid, x, side, side, true), inverted);
     }
-    let color = pack(grid, x, side, side, false);
-    masked_line(color, pack(grid, x, side, side, true), inverted)
+    let byte = grid[8 * side + x];
+    let color = patch(load(words, 6 * x), digit_of(byte, false));
+    let free = patch(load(words, 6 * x + 3), digit_of(byte, true));
+    masked_line(color, free, inverted)
 }
 
 /*---- The whole grid ----*/
@@ -457,7 +472,7 @@ struct Rows {
 
 // Goes through the rows of the masked grid once.
 fn rows_of(grid: &[u8], words: &[u64], side: usize, msk: usize) -> Rows
-    requires { ⌜ (4 ≤ side) × (side ≤ 177) × (msk < 8) × (length (now grid) ≡ side * side) × HeldRows side (now grid) (now words) ⌝ }
+    requires { ⌜ (9 ≤ side) × (side ≤ 177) × (msk < 8) × (length (now grid) ≡ side * side) × HeldRows side (now grid) (now words) ⌝ }
     ensures { λ r. ⌜ (r .cost ≡ sum (tabulate side (λ y. lineCost side (row side (colours (paint side (masked msk) (now (grid .entry)))) y)))) × (r .same ≡ sum (tabulate (side - 1) (squares side (colours (paint side (masked msk) (now (grid .entry))))))) × (r .dark ≡ sum (colours (paint side (masked msk) (now (grid .entry))))) × (r .cost ≤ 6960 * side) × (r .same ≤ 192 * side) × (r .dark ≤ 192 * side) ⌝ }
 {
     let full = mask(side + 8);
@@ -480,7 +495,7 @@ fn rows_of(grid: &[u8], words: &[u64], side: usize, msk: usize) -> Rows
 
 // Adjacent modules in column having same color, and finder-like patterns.
 fn columns_cost(grid: &[u8], words: &[u64], side: usize, msk: usize) -> u32
-    requires { ⌜ (4 ≤ side) × (side ≤ 177) × (msk < 8) × (length (now grid) ≡ side * side) × HeldColumns side (now grid) (now words) ⌝ }
+    requires { ⌜ (9 ≤ side) × (side ≤ 177) × (msk < 8) × (length (now grid) ≡ side * side) × HeldColumns side (now grid) (now words) ⌝ }
     ensures { λ r. ⌜ (r ≡ sum (tabulate side (λ x. lineCost side (column side (colours (paint side (masked msk) (now (grid .entry)))) x)))) × (r ≤ 6960 * side) ⌝ }
 {
     let full = mask(side + 8);
@@ -493,9 +508,9 @@ fn columns_cost(grid: &[u8], words: &[u64], side: usize, msk: usize) -> u32
 }
 
 // Calculates and returns the penalty score of a grid as it is with the mask on it, which is not drawn.
-// The words hold its rows and columns, but for those that have format bits.
+// The words hold its rows and columns, but for format bits.
 pub fn get_penalty_score(grid: &[u8], rows: &[u64], columns: &[u64], side: usize, msk: usize) -> u32
-    requires { ⌜ (4 ≤ side) × (side ≤ 177) × (msk < 8) × (length (now grid) ≡ side * side) ⌝ }
+    requires { ⌜ (9 ≤ side) × (side ≤ 177) × (msk < 8) × (length (now grid) ≡ side * side) ⌝ }
     requires { ⌜ HeldRows side (now grid) (now rows) × HeldColumns side (now grid) (now columns) ⌝ }
     ensures { λ r. ⌜ r ≡ penalty side (colours (paint side (masked msk) (now (grid .entry)))) ⌝ }
 {

@@ -1,8 +1,12 @@
-// Compares penalty scores with those of the original. A case on standard input is a line of 17 bytes:
+// Compares penalty scores with those of the original: the byte scan's, and those of the packed lines. A case on standard input is a line of 17 bytes:
 // kind, version, parameter, score. tools/vectors/penalty.rs makes the list, and has the same rules for the grids.
 ghost use mathlib.Core.Path.{_≡_};
 ghost use Prim.Native.Nat.{_*_, _+_, _<_, _≤_};
 ghost use lib.ListN.{length};
+ghost use Rattle.standard.specs.Sizes.{side as sideOf};
+ghost use Rattle.laws.specs.Grid.{Square};
+ghost use Rattle.types.specs.Numbers.{IsVersion};
+use types::Version;
 
 // A digit of a line.
 fn digit(b: u8) -> u64
@@ -148,31 +152,77 @@ fn make(grid: &mut [u8], kind: u64, side: usize, p: u64)
     regular(grid, kind, side, p as usize);
 }
 
-// Makes the grid and scores it.
-fn score(grid: &mut [u8], kind: u64, side: usize, p: u64) -> u32
-    requires { ⌜ (1 ≤ side) × (side ≤ 177) × (length (now grid) ≡ side * side) × (p < 1000) ⌝ }
+// Module i as a function module, for every fifth.
+fn marked(byte: u8, i: usize) -> u8 {
+    if i % 5 == 0 {
+        return byte % 2 + 2;
+    }
+    byte
+}
+
+// Marks every fifth module as a function module, which no mask inverts.
+fn mark(grid: &mut [u8]) {
+    for i in 0..grid.len() {
+        grid[i] = marked(grid[i], i);
+    }
+}
+
+// Scores the grid on packed lines: mask m is drawn, and the same mask laid over the packed lines takes it off again.
+fn score_packed(grid: &mut [u8], rows: &mut [u64], columns: &mut [u64], ver: Version, m: u8) -> u32
+    requires { ⌜ Square (now grid) (sideOf (ver .0)) ⌝ }
+    requires { ⌜ IsVersion ver × (m < 8) × (length (now rows) ≡ 6 * sideOf (ver .0)) × (length (now columns) ≡ 6 * sideOf (ver .0)) ⌝ }
 {
+    modules::apply_mask(grid, ver, types::mask_at(m));
+    let side = patterns::size_of(ver);
+    packed::pack_rows(grid, side, rows);
+    packed::pack_columns(grid, side, columns);
+    packed::get_penalty_score(grid, rows, columns, side, m as usize)
+}
+
+// Has room for the packed lines.
+fn score_lines(grid: &mut [u8], ver: Version, m: u8) -> u32
+    requires { ⌜ Square (now grid) (sideOf (ver .0)) ⌝ }
+    requires { ⌜ IsVersion ver × (m < 8) ⌝ }
+{
+    mark(grid);
+    let mut rows = [0u64; 1062];
+    let mut columns = [0u64; 1062];
+    let words = 6 * patterns::size_of(ver);
+    score_packed(grid, &mut rows[0..words], &mut columns[0..words], ver, m)
+}
+
+// Makes the grid and scores it in both ways; 0xFFFF_FFFF, which is no score, if they differ.
+fn score(grid: &mut [u8], kind: u64, ver: Version, p: u64) -> u32
+    requires { ⌜ Square (now grid) (sideOf (ver .0)) ⌝ }
+    requires { ⌜ IsVersion ver × (p < 1000) ⌝ }
+{
+    let side = patterns::size_of(ver);
     make(grid, kind, side, p);
-    penalty::get_penalty_score(grid, side)
+    let scanned = penalty::get_penalty_score(grid, side);
+    if score_lines(grid, ver, (p % 8) as u8) != scanned {
+        return 0xFFFF_FFFF;
+    }
+    scanned
 }
 
 // Uses as many bytes as the grid has modules.
-fn score_in(room: &mut [u8], kind: u64, side: usize, p: u64) -> u32
-    requires { ⌜ (1 ≤ side) × (side ≤ 177) × (p < 1000) ⌝ }
+fn score_in(room: &mut [u8], kind: u64, ver: Version, p: u64) -> u32
+    requires { ⌜ IsVersion ver × (p < 1000) ⌝ }
 {
+    let side = patterns::size_of(ver);
     let n = side * side;
     if n > room.len() {
         return 0;
     }
-    score(&mut room[0..n], kind, side, p)
+    score(&mut room[0..n], kind, ver, p)
 }
 
 // The score of the grid of a case.
-fn score_of(kind: u64, side: usize, p: u64) -> u32
-    requires { ⌜ (1 ≤ side) × (side ≤ 177) × (p < 1000) ⌝ }
+fn score_of(kind: u64, ver: Version, p: u64) -> u32
+    requires { ⌜ IsVersion ver × (p < 1000) ⌝ }
 {
     let mut room = [0u8; 31329];
-    score_in(&mut room, kind, side, p)
+    score_in(&mut room, kind, ver, p)
 }
 
 // 0 if the score of a case is the one that its line gives, else 1.
@@ -180,14 +230,16 @@ fn differs(line: [u8; 17]) -> u64
     ensures { λ r. ⌜ r ≤ 1 ⌝ }
 {
     let ver = digit(line[2]) * 10 + digit(line[3]);
+    if ver < 1 {
+        return 1;
+    }
     if ver > 40 {
         return 1;
     }
     let p = digit(line[5]) * 100 + digit(line[6]) * 10 + digit(line[7]);
     let high = digit(line[9]) * 1000000 + digit(line[10]) * 100000 + digit(line[11]) * 10000;
     let low = digit(line[12]) * 1000 + digit(line[13]) * 100 + digit(line[14]) * 10;
-    let side = (ver * 4 + 17) as usize;
-    let found = score_of(digit(line[0]), side, p);
+    let found = score_of(digit(line[0]), types::version_at(ver as u8), p);
     if found as u64 == high + low + digit(line[15]) {
         return 0;
     }

@@ -1,7 +1,8 @@
 -- `choice::choose_packed` meets its contract.
 -- Assumes nothing.
 use native.Mathlib.Omega.{arith}
-use Rattle.choice.specs.Lines.{square-size, rows-packed, columns-packed}
+use Rattle.packed.specs.Stored.{rows-held, columns-held}
+use Rattle.choice.specs.Lines.{square-size}
 use borrow.Author.Needs.{needs}
 use Rattle.choice.proofs.choose_packed.Statement.{statement}
 use Rattle.choice.proofs.choose_packed.Tie as tie
@@ -16,7 +17,7 @@ pack-columns-requires : tie.Need-pack-columns-requires
 pack-columns-requires c κs = (omega arith, search (square-size, needs), omega arith)
 
 choose-best-requires : tie.Need-choose-best-requires
-choose-best-requires c κs = (search needs, (search needs, (search (rows-packed, needs), search (columns-packed, needs))))
+choose-best-requires c κs = (search needs, (search needs, (search (rows-held, needs), search (columns-held, needs))))
 
 same-length : tie.Need-same-length
 same-length c = search needs

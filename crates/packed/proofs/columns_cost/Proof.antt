@@ -1,6 +1,6 @@
 -- `packed::columns_cost` meets its contract. The loop adds up the columns passed.
 -- Assumes nothing.
-use Prim.Native.Nat.{ℕ, _+_, _-_, _*_, _≤_}
+use Prim.Native.Nat.{ℕ, _-_, _*_, _≤_}
 use mathlib.Core.Path.{_≡_}
 use Rattle.standard.specs.Numbers.{sum, tabulate}
 use Rattle.standard.specs.Penalty.{column, lineCost}
@@ -8,7 +8,6 @@ use Rattle.laws.specs.Sums.{sum-next, sum-end}
 use Rattle.laws.specs.Grid.{paint}
 use Rattle.modules.specs.Mask.{masked}
 use Rattle.penalty.specs.Lines.{colours}
-use Rattle.packed.specs.Words.{whole}
 use Rattle.packed.specs.Rows.{column-framed, column-cost}
 use native.Mathlib.Omega.{arith}
 use borrow.Author.Needs.{needs}

@@ -1,6 +1,6 @@
 -- `packed::rows_of` meets its contract. Before turn y rows 0 to y are passed.
 -- Assumes nothing.
-use Prim.Native.Nat.{ℕ, _+_, _-_, _*_, _≤_}
+use Prim.Native.Nat.{_+_, _-_, _*_, _≤_}
 use mathlib.Core.Path.{_≡_, refl, _∙_}
 use Rattle.laws.specs.Grid.{paint, length-paint}
 use Rattle.modules.specs.Mask.{masked}
@@ -55,7 +55,7 @@ add-row-line : tie.Need-add-row-line Inv-loop μ-loop
 add-row-line c = search needs
 
 row-line-requires-2 : tie.Need-row-line-requires-2 Inv-loop μ-loop
-row-line-requires-2 c κs = (omega arith, omega arith, omega arith, omega arith, search needs)
+row-line-requires-2 c κs = (omega arith, omega arith, omega arith, omega arith, omega arith, search needs)
 
 line-cost-requires-2 : tie.Need-line-cost-requires-2 Inv-loop μ-loop
 line-cost-requires-2 c κs = (search (row-framed, needs), search needs, search needs, search needs, search needs)

@@ -1,7 +1,7 @@
 -- `packed::square_count` meets its contract.
 -- Assumes nothing.
 use mathlib.Core.Path.{_≡_, _∙_}
-use Prim.Native.Nat.{ℕ, _/_}
+use Prim.Native.Nat.{_/_}
 use native.Mathlib.Omega.{arith}
 use lib.Count.{ones}
 use Rattle.packed.specs.Words.{whole}

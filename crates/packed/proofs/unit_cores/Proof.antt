@@ -1,18 +1,14 @@
 -- `packed::unit_cores` meets its contract.
 -- Assumes nothing.
-use mathlib.Core.Path.{_≡_, refl, sym, ap, ap₂, _∙_}
-use mathlib.Core.List.{List, [], _∷_}
-use mathlib.Core.Bool.{Bool, true, false}
-use Prim.Native.Nat.{ℕ, _+_, _*_, _/_}
+use mathlib.Core.Path.{ap, ap₂, _∙_}
+use mathlib.Core.List.{[], _∷_}
+use Prim.Native.Nat.{ℕ, _+_}
 use native.Mathlib.Omega.{arith}
 use lib.Count.{ones}
-use borrow.Author.Tests.{eqb-true}
 use Rattle.packed.specs.Words.{whole, join3}
-use Rattle.packed.specs.Marks.{marks, hits, marked, marks-hits, no-hits, or-none}
-use Rattle.packed.specs.Cores.{before, behind, pairs, triples}
-use Rattle.packed.specs.Frame.{lineOf}
-use Rattle.packed.specs.Whole.{zone, dark-zone, light-zone, few, runs-of}
-use Rattle.standard.specs.Penalty.{cores, runs, bordered, lineCost}
+use Rattle.packed.specs.Marks.{marked, marks-hits}
+use Rattle.packed.specs.Cores.{before, behind}
+use Rattle.packed.specs.Whole.{zone, dark-zone}
 use borrow.Author.Needs.{needs}
 use Rattle.packed.proofs.unit_cores.Statement.{statement}
 use Rattle.packed.proofs.unit_cores.Tie as tie

@@ -1,6 +1,6 @@
 -- `packed::unpack` meets its contract. Before turn i the first i modules are written.
 -- Assumes nothing.
-use Prim.Native.Nat.{_+_, _-_, _*_, _/_, _^_, _≤_}
+use Prim.Native.Nat.{_-_, _/_, _^_, _≤_}
 use mathlib.Core.Path.{_≡_, refl, sym, _∙_}
 use native.Mathlib.Nat.{div-one}
 use native.Mathlib.Omega.{arith}

@@ -1,13 +1,20 @@
 -- `replay_penalty::score_in` meets its contract. The side is at most 177.
 -- Assumes nothing.
 use Rattle.penalty.specs.Squares.{side-square}
+use Prim.Native.Nat.{_-_, _*_}
+use mathlib.Core.Path.{_≡_, _∙_}
 use native.Mathlib.Omega.{arith}
+use lib.Seq.{length-take-le}
+use Rattle.replay_penalty.specs.Lines.{square-of}
 use borrow.Author.Needs.{needs}
 use Rattle.replay_penalty.proofs.score_in.Statement.{statement}
 use Rattle.replay_penalty.proofs.score_in.Tie as tie
 
+size-of-requires : tie.Need-size-of-requires
+size-of-requires c κs = search needs
+
 mul-n : tie.Need-mul-n
-mul-n c = omega (arith, side-square (c .before .args .side) (omega arith))
+mul-n c = omega (arith, side-square (c .size-of .result) (omega arith))
 
 returns : tie.Need-returns
 returns c = search needs
@@ -22,7 +29,10 @@ part-score-end : tie.Need-part-score-end
 part-score-end c = search needs
 
 score-requires : tie.Need-score-requires
-score-requires c κs = search needs
+score-requires c κs =
+    let s = c .before .before .size-of in
+    let whole : s .result * s .result - 0 ≡ s .result * s .result = omega arith in
+    (square-of (s .result) _ _ (length-take-le (s .result * s .result - 0) (c .before .before .before .before .args .room .now) (omega arith) ∙ whole) (s .ensures) (omega arith), search needs)
 
 same-length : tie.Need-same-length
 same-length c = search needs
@@ -34,6 +44,7 @@ pub score-in-spec : {M : Type 1} → statement M
 score-in-spec =
     tie.close
     (tie.spec
+    size-of-requires
     mul-n
     returns
     sub-score
