@@ -271,18 +271,18 @@ impl FinderPenalty {
     }
 
     // Must be called at the end of a line (row or column) of modules.
-    pub fn terminate_and_count(self, currentruncolor: bool, currentrunlength: u32) -> u32
+    pub fn terminate_and_count(mut self, currentruncolor: bool, currentrunlength: u32) -> u32
         requires { ⌜ (currentrunlength + self .«qr_size» + self .«qr_size» < 65536) × (getD (self .«run_history») 0 0 < 65536) ⌝ }
         ensures { λ r. ⌜ (r ≡ ended (self .«qr_size») currentruncolor currentrunlength (self .«run_history»)) × (r ≤ 2) ⌝ }
     {
         let size = self.qr_size;
         if currentruncolor {
-            let dark = self.push(currentrunlength);
-            let last = dark.push(size);
-            return last.count();
+            self.add_history(currentrunlength);
+            self.add_history(size);
+            return self.count_patterns();
         }
-        let last = self.push(currentrunlength + size);
-        last.count()
+        self.add_history(currentrunlength + size);
+        self.count_patterns()
     }
 }
 

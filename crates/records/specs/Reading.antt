@@ -41,7 +41,7 @@ abbrev pub ReadsIn : List ℕ → ℕ → List ℕ → ℕ → List ℕ → List
 ReadsIn g s text room ns scratch r o ns′ z = ReadsNumbers g s text (take (4 * min room 2048) ns) scratch r o (take (4 * min room 2048) ns′) z
 
 -- the numbers as the code cuts them off and puts them back
-pub part-read : (g : List ℕ) (s : ℕ) (text : List ℕ) (room : ℕ) (ns scratch : List ℕ) (r : Outcome) (o w z : List ℕ) (k : ℕ) → k ≡ min room 2048 → length w ≡ length (take (4 * k - 0) ns) → 8192 ≤ length ns
+pub part-read : (g : List ℕ) (s : ℕ) (text : List ℕ) (room : ℕ) (ns scratch : List ℕ) (r : Outcome) (o w z : List ℕ) (k : ℕ) → k ≡ min room 2048 → length w ≡ length (take (4 * k - 0) ns) → 4 * min room 2048 ≤ length ns
     → ReadsNumbers g s text (take (4 * k - 0) ns) scratch r o w z → ReadsIn g s text room ns scratch r o (w ++ drop (4 * k - 0) ns) z
 part-read g s text room ns scratch r o w z k e lw long f =
     let c : 4 * k - 0 ≡ 4 * min room 2048 = omega arith in
@@ -133,7 +133,7 @@ module _ (g : List ℕ) (s : ℕ) (text : List ℕ) (rs : List Record) (scratch 
   abbrev taken : List ℕ → List Part
   taken l = partsOf (take (4 * min (length rs) 2048) l)
 
-  module _ (long : 8192 ≤ length ns) (ps : List Part) (size : length ps ≡ min (length rs) 2048) (a : Label) (x : Shows g a) (c : List ℕ) where
+  module _ (long : 4 * min (length rs) 2048 ≤ length ns) (ps : List Part) (size : length ps ≡ min (length rs) 2048) (a : Label) (x : Shows g a) (c : List ℕ) where
     few-segments : length (a .segments) ≤ 1970
     few-segments =
         let p : Proper (a .version) (a .level) (a .mask) (a .segments) = proper (a .version) (a .level) (a .mask) (a .segments) (x .label) in
@@ -170,7 +170,7 @@ module _ (g : List ℕ) (s : ℕ) (text : List ℕ) (rs : List Record) (scratch 
             (t .0 ∙ sym (all-fit a text (parts rs) c e (le-ltb (length (parts rs)) (length (a .segments)) room)), t .1)
 
   -- THE LAW: what is packed meets the definition's relation
-  pub packs : (ns₀ : List ℕ) → 8192 ≤ length ns₀ → 8192 ≤ length ns → ReadsIn g s text (length rs) ns₀ scratch r o ns z → Packed
+  pub packs : (ns₀ : List ℕ) → 4 * min (length rs) 2048 ≤ length ns₀ → 4 * min (length rs) 2048 ≤ length ns → ReadsIn g s text (length rs) ns₀ scratch r o ns z → Packed
   packs ns₀ long₀ long f = go (f .reads)
     where
       size : length (taken ns₀) ≡ min (length rs) 2048

@@ -206,7 +206,7 @@ fn read_numbers(
     numbers: &mut [u64],
     scratch: &mut [u8],
 ) -> reader::Outcome
-    requires { ⌜ 8192 ≤ length (now numbers) ⌝ }
+    requires { ⌜ 4 * min room 2048 ≤ length (now numbers) ⌝ }
     ensures { λ r. ⌜ ReadsIn (now (grid .entry)) size (now (text .entry)) room (now (numbers .entry)) (now (scratch .entry)) r (now (text .exit)) (now (numbers .exit)) (now (scratch .exit)) ⌝ }
 {
     let end = 4 * at_most(room);
@@ -230,6 +230,7 @@ fn written(r: reader::Outcome) -> usize
 }
 
 // Reads the label that a grid shows: its characters into text and its records into records, from the start of both on.
+// Two lengths of the array of numbers, as above.
 pub fn read(
     grid: &[u8],
     size: usize,
@@ -239,8 +240,15 @@ pub fn read(
 ) -> reader::Outcome
     ensures { λ r. ⌜ Reads (now (grid .entry)) size (now (text .entry)) (parts (now (records .entry))) (now (scratch .entry)) (readOf r (now (text .exit)) (parts (now (records .exit))) (now (scratch .exit))) ⌝ }
 {
+    let n = records.len();
+    if n <= 128 {
+        let mut numbers: [u64; 512] = [0; 512];
+        let r = read_numbers(grid, size, text, n, &mut numbers, scratch);
+        pack(&numbers, written(r), records);
+        return r;
+    }
     let mut numbers: [u64; 8192] = [0; 8192];
-    let r = read_numbers(grid, size, text, records.len(), &mut numbers, scratch);
+    let r = read_numbers(grid, size, text, n, &mut numbers, scratch);
     pack(&numbers, written(r), records);
     r
 }
