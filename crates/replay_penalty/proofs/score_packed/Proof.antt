@@ -1,5 +1,6 @@
 -- `replay_penalty::score_packed` meets its contract.
 -- Assumes nothing.
+use mathlib.Core.Path.{refl}
 use native.Mathlib.Omega.{arith}
 use Rattle.packed.specs.Stored.{rows-held, columns-held}
 use Rattle.replay_penalty.specs.Lines.{masked-size}
@@ -23,9 +24,9 @@ pack-columns-requires : tie.Need-pack-columns-requires
 pack-columns-requires c κs = (omega arith, search (masked-size, needs), omega arith)
 
 get-penalty-score-requires : tie.Need-get-penalty-score-requires
-get-penalty-score-requires c κs = (
+get-penalty-score-requires c κs = let r = c .before .before .before .before .before .before .before .before .before .before .pack-rows in let k = c .before .before .before .before .before .pack-columns in (
   (omega arith, omega arith, search needs, search (masked-size, needs)),
-  (search (rows-held, needs), search (columns-held, needs)),
+  (rows-held _ _ _ _ refl (r .ensures .0) (r .ensures .1), columns-held _ _ _ _ refl (k .ensures .0) (k .ensures .1)),
 )
 
 same-length : tie.Need-same-length
