@@ -69,6 +69,16 @@ pub fn bench() {
     for row in rows().iter().filter(|r| r.mask != MASK_AUTO) {
         read_row(row);
     }
+    println!();
+    println!("{:30} {:>10} {:>10} {:>12}", "Lists of digits, mask 3", "port", "Rust", "port / Rust");
+    for n in [1, 10, 100, 1_000] {
+        list_row(n);
+    }
+    println!();
+    println!("A call that is refused by 1 after its records were taken in, in nanoseconds");
+    for n in [0, 1, 10, 100, 128, 129, 1_000, 2_048] {
+        bridge_row(n);
+    }
 }
 
 // Best times of several things, in microseconds; rounds are taken in turn, so that a busy machine is fair to all.
@@ -155,4 +165,42 @@ fn read_row(row: &Row) {
     };
     let times = best(&mut [&mut reading, &mut drawing]);
     println!("{:30} {:10.1} {:10.1} {:12.2}", row.name, times[0], times[1], times[0] / times[1]);
+}
+
+// A list of n Numeric segments of one digit each, which share their text.
+fn digits(n: usize) -> (Vec<u8>, Vec<Record>) {
+    let text = b"0123456789".to_vec();
+    let records = (0..n).map(|i| Record { kind: 0, start: (i % 10) as u64, length: 1, assign: 0 }).collect();
+    (text, records)
+}
+
+fn list_row(n: usize) {
+    let (mut grid, mut scratch) = (vec![0; GRID], vec![0; SCRATCH]);
+    let (text, records) = digits(n);
+    let mut port = || {
+        let answer = raw::encode_segments(&text, black_box(&records), 0, 1, 40, 3, false, &mut grid, &mut scratch);
+        assert_eq!(black_box(answer).number, 0);
+    };
+    let mut rust = || {
+        let list: Vec<QrSegment> = black_box(&records)
+            .iter()
+            .map(|r| QrSegment::make_numeric(std::str::from_utf8(&text[r.start as usize..][..1]).unwrap()))
+            .collect();
+        let qr = QrCode::encode_segments_advanced(&list, LEVELS[0], Version::MIN, Version::MAX, mask(3), false);
+        assert!(black_box(qr).is_ok());
+    };
+    let times = best(&mut [&mut port, &mut rust]);
+    println!("{:30} {:10.1} {:10.1} {:12.2}", format!("{n} records"), times[0], times[1], times[0] / times[1]);
+}
+
+// What it costs to take the records in: level 4 is refused before anything else is done with them.
+fn bridge_row(n: usize) {
+    let (mut grid, mut scratch) = (vec![0; GRID], vec![0; SCRATCH]);
+    let (text, records) = digits(n);
+    let mut call = || {
+        let answer = raw::encode_segments(&text, black_box(&records), 4, 1, 40, 3, false, &mut grid, &mut scratch);
+        assert_eq!(black_box(answer).number, 1);
+    };
+    let time = best(&mut [&mut call])[0] * 1000.0;
+    println!("{:30} {:10.0} {:>10}", format!("{n} records"), time, told((n > 0).then(|| time / n as f64), 1) + " each");
 }
