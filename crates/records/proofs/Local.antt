@@ -18,7 +18,7 @@ use base.Logic.{ent, sep, ex, via, guardI}
 use base.Fml.{Lft, GName, Fml, fsep, fat, froom, fres, fdead, flent}
 use prog.Wp.{Heap, Env}
 use ghost.Atoms.{Atoms, sem}
-use types.Kit.{Given, Item, ‵, _⊛_, some, later, _$_, _∵_, !, qed, by, move, keep, use1, use3, drop, split, pick, rewrite, fsplit, fjoin, fpick, fpack, feqL, feqI, frame, await, updating, now as at-once, show, done}
+use types.Kit.{Given, Item, ‵, _⊛_, some, later, _$_, _∵_, !, qed, by, move, keep, use1, use3, drop, split, pick, rewrite, fsplit, fjoin, fpick, fpack, feqL, feqI, await, updating, now as at-once, show, done}
 use types.Run.{Opd}
 use types.Tokens.{lent-back}
 use types.SemTy.{cells, Arr}

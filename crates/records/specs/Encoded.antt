@@ -9,7 +9,7 @@ use native.Mathlib.Omega.{arith}
 use lib.ListN.{length, take}
 use borrow.Author.Tests.{lt-ltb, le-ltb, le-leb, lt-leb}
 use Rattle.standard.specs.Segments.{Part, segmentsOf}
-use Rattle.standard.specs.Plan.{Refusal, refusal, Plan, unplanned, plan}
+use Rattle.standard.specs.Plan.{Refusal, refusal, unplanned, plan}
 use Rattle.standard.specs.Encode.{Answer, refused, Return, refuse, drawPlan, encode}
 use Rattle.segments.specs.Records.{partsOf}
 

@@ -1,20 +1,20 @@
 -- What the core reads into numbers, and the records that are packed from them.
 -- Assumes nothing.
-use Prim.Native.Nat.{ℕ, zero, suc, _+_, _-_, _*_, _/_, _≤_, _<_, min}
-use mathlib.Core.Bool.{Bool, true, false, cond}
-use mathlib.Core.List.{List, [], _∷_, _++_}
-use mathlib.Core.Path.{_≡_, refl, sym, ap, ap₂, _∙_, subst}
+use Prim.Native.Nat.{ℕ, _+_, _-_, _*_, _/_, _≤_, _<_, min}
+use mathlib.Core.Bool.{Bool, true, false}
+use mathlib.Core.List.{List, _++_}
+use mathlib.Core.Path.{_≡_, refl, sym, ap, _∙_, subst}
 use native.Mathlib.Omega.{arith}
 use lib.Dec.{ltb}
 use lib.ListN.{length, getD, take, drop, length-map, List·getD-append}
 use lib.Seq.{length-take-le, getD-take, take-at}
 use borrow.Author.Tests.{lt-ltb, le-ltb, ltb-true, ltb-false}
 use Rattle.standard.specs.Numbers.{tabulate}
-use Rattle.standard.specs.Segments.{Part, Segment}
+use Rattle.standard.specs.Segments.{Part}
 use Rattle.standard.specs.Plan.{Refusal, refusal}
 use Rattle.standard.specs.Encode.{zeroed}
 use Rattle.standard.specs.Label.{Label, Shows}
-use Rattle.standard.specs.Read.{Reading, unread, readAs, Read, refuseTo, characters, recordsFrom, written, labelled, Finds, shown, none as shows-none, Reads, refuses, looks}
+use Rattle.standard.specs.Read.{unread, readAs, Read, refuseTo, characters, recordsFrom, written, labelled, shown, none as shows-none, Reads, refuses, looks}
 use Rattle.laws.specs.Lists.{getD-tabulate, is-tabulate}
 use Rattle.segments.specs.Records.{partOf as partFrom, partAt, partsOf, parts-length}
 use Rattle.parser.specs.Few.{few-records}

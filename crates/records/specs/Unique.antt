@@ -15,7 +15,7 @@ use Rattle.reader.specs.Answers.{answerOf, readOf}
 use Rattle.reader.specs.Theorems.{read-unique, Accepts, accepts-only}
 use Rattle.reader.specs.Redraw.{records-length}
 use Rattle.records.specs.declared.Record.{Record}
-use Rattle.records.specs.Records.{partOf, parts}
+use Rattle.records.specs.Records.{parts}
 
 -- ---- the encoding entry
 

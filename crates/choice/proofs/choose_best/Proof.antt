@@ -34,7 +34,10 @@ loop-less c = search needs
 loop-again : tie.Need-loop-again Inv-loop μ-loop
 loop-again c =
     let k = c .before .before .before .score-mask in let l = c .before .before .before .before .before .before .loop in (
-      ⊎-elim (λ w. search (scored-next, needs)) (λ w. search (scored-same, needs)) (c .if1 .came),
+      ⊎-elim
+          (λ w. scored-next _ _ _ _ _ _ _ _ _ _ (l .inv .0) (k .ensures .0) (k .ensures .1) refl (search needs) _ _ (search needs) (w .0 .taken) (w .1) (w .2))
+          (λ w. search (scored-same, needs))
+          (c .if1 .came),
       search needs,
       rows-drawn _ _ _ _ _ _ (k .ensures .1) (search needs) (l .inv .2) refl,
       columns-drawn _ _ _ _ _ _ (k .ensures .1) (search needs) (l .inv .3) refl,

@@ -1,7 +1,7 @@
 -- `records::encode_segments_advanced` meets its contract: a walk of its MIR, by hand, with nothing but calls. A list of at most 128 records is unpacked into a short array and one of at most 2,048 into a long one;
 -- the array is a local, lent to `unpack` and then shared with `encode_numbers`. `text` and `records` can be copied, and a copy of each is kept for the exit; `grid` and `scratch` are given up.
 -- Assumes nothing.
-use mathlib.Core.Path.{_≡_, refl, sym, ap, subst, _∙_}
+use mathlib.Core.Path.{_≡_, refl, ap, _∙_}
 use Prim.Native.Nat.{ℕ, _*_, _<_, _≤_, _^_}
 use native.Mathlib.Omega.{arith}
 use mathlib.Core.Bool.{Bool, true, false}

@@ -1,6 +1,5 @@
 -- `records::make` meets its contract.
 -- Assumes nothing.
-use mathlib.Core.Path.{refl}
 use borrow.Author.Needs.{needs}
 use Rattle.records.specs.Records.{recordAt}
 use Rattle.records.proofs.make.Statement.{statement}
