@@ -1,4 +1,4 @@
-//! Times of the port, of the Rust original and of libqrencode, measured in one run: the best of 25 rounds of each.
+//! Times of the port, of the Rust original, of libqrencode and of zxing-cpp, measured in one run: the best of 25 rounds of each.
 use crate::model::{mask, LEVELS};
 use gatemurmur::raw::{self, Record, GRID, MASK_AUTO, SCRATCH, TEXT};
 use qrcodegen::{QrCode, QrSegment, Version};
@@ -65,7 +65,10 @@ pub fn bench() {
         draw_row(&row);
     }
     println!();
-    println!("{:30} {:>10} {:>10} {:>12}", "", "reading", "drawing", "ratio");
+    println!(
+        "{:30} {:>10} {:>10} {:>16} {:>12} {:>18}",
+        "", "reading", "drawing", "reading / drawing", "zxing-cpp", "zxing-cpp / reading"
+    );
     for row in rows().iter().filter(|r| r.mask != MASK_AUTO) {
         read_row(row);
     }
@@ -163,8 +166,46 @@ fn read_row(row: &Row) {
             raw::encode_segments(black_box(&row.text), &records, 0, 1, 40, row.mask, false, &mut grid, &mut again);
         assert_eq!(black_box(answer).number, 0);
     };
-    let times = best(&mut [&mut reading, &mut drawing]);
-    println!("{:30} {:10.1} {:10.1} {:12.2}", row.name, times[0], times[1], times[0] / times[1]);
+    let (times, other) = measure_reading(row, &drawn, size, &mut reading, &mut drawing);
+    println!(
+        "{:30} {:10.1} {:10.1} {:16.2} {:>12} {:>18}",
+        row.name,
+        times[0],
+        times[1],
+        times[0] / times[1],
+        told(other, 1),
+        told(other.map(|t| t / times[0]), 2)
+    );
+}
+
+// Reading and drawing, and zxing-cpp where it is there: it reads a picture of the label and nothing else, one pixel a module.
+#[cfg(zxing)]
+fn measure_reading(
+    row: &Row,
+    drawn: &[u8],
+    size: usize,
+    reading: &mut dyn FnMut(),
+    drawing: &mut dyn FnMut(),
+) -> (Vec<f64>, Option<f64>) {
+    let (picture, width) = crate::zxing::picture(drawn, size);
+    let mut text = vec![0; TEXT];
+    assert_eq!(crate::zxing::read(&picture, width, &mut text), Some(row.text.len()));
+    assert_eq!(text[..row.text.len()], row.text[..]);
+    let mut other = || assert!(crate::zxing::read(black_box(&picture), width, &mut text).is_some());
+    let times = best(&mut [reading, drawing, &mut other]);
+    let third = times[2];
+    (times, Some(third))
+}
+
+#[cfg(not(zxing))]
+fn measure_reading(
+    _: &Row,
+    _: &[u8],
+    _: usize,
+    reading: &mut dyn FnMut(),
+    drawing: &mut dyn FnMut(),
+) -> (Vec<f64>, Option<f64>) {
+    (best(&mut [reading, drawing]), None)
 }
 
 // A list of n Numeric segments of one digit each, which share their text.

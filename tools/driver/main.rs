@@ -7,6 +7,8 @@ mod model;
 mod qrencode;
 mod random;
 mod run;
+#[cfg(zxing)]
+mod zxing;
 
 use case::Case;
 use families::Family;
