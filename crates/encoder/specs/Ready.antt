@@ -1,6 +1,6 @@
 -- What a plan says of the records that it was made for: they are good, and they fit the version at the level. So they can be drawn.
 -- Assumes nothing.
-use Prim.Native.Nat.{ℕ, zero, suc, _+_, _-_, _≤_, _<_}
+use Prim.Native.Nat.{ℕ, zero, suc, _+_, _-_, _≤_}
 use mathlib.Core.Bool.{Bool, true, false, cond}
 use mathlib.Core.List.{List}
 use mathlib.Core.Path.{_≡_, refl, sym, ap₂, _∙_}
@@ -13,20 +13,11 @@ use Rattle.standard.specs.Sizes.{capacity}
 use Rattle.standard.specs.Segments.{Part, Segment, segmentsOf, goodPart, firstBad, totalBits, lengthsFit, fits}
 use Rattle.standard.specs.Plan.{Refusal, refusal, Plan, unplanned, planned, lowestFit, boosted, tooLong, levelled, planFit, plan}
 use Rattle.laws.specs.Tests.{true-T, and-both, and-first, and-second}
+use Rattle.laws.specs.Least.{least-bounds}
 use Rattle.segments.specs.Records.{all-good}
 use Rattle.encoder.specs.Planning.{badRange, range-low, range-mid, range-high}
 
--- ---- the least and the highest
-
-least-bounds : (k n : ℕ) (p : ℕ → Bool) → least k n p < k + n → (p (least k n p) ≡ true) × (k ≤ least k n p)
-least-bounds k zero p h = absurd (omega arith)
-least-bounds k (suc n) p h = go (p k) refl h (λ l. least-bounds (suc k) n p l)
-  where
-    go : (b : Bool) → p k ≡ b → elim b as (λ _. ℕ) [ true ↦ k | false ↦ least (suc k) n p ] < k + suc n
-        → (least (suc k) n p < suc k + n → (p (least (suc k) n p) ≡ true) × (suc k ≤ least (suc k) n p))
-        → (p (elim b as (λ _. ℕ) [ true ↦ k | false ↦ least (suc k) n p ]) ≡ true) × (k ≤ elim b as (λ _. ℕ) [ true ↦ k | false ↦ least (suc k) n p ])
-    go true e l rest = (e, omega arith)
-    go false e l rest = let r = rest (omega arith) in (r .0, omega (arith, r .1))
+-- ---- the highest
 
 highest-passes : (k n : ℕ) (p : ℕ → Bool) → p k ≡ true → p (highest k n p) ≡ true
 highest-passes k zero p h = h
@@ -64,7 +55,7 @@ unfolding planFit levelled lowestFit
 fit-planned l first last boost ss v k n h q =
     let p = past (ltb last (least first (suc last - first) (fits l ss))) (tooLong l last ss) _ v k n q in
     let below : least first (suc last - first) (fits l ss) ≤ last = ltb-false last (least first (suc last - first) (fits l ss)) (p .0) in
-    let b = least-bounds first (suc last - first) (fits l ss) (omega arith) in
+    let b = least-bounds (fits l ss) first (suc last - first) (omega arith) in
     let same : least first (suc last - first) (fits l ss) ≡ v = cc (p .1) in
     let lev : cond boost (boosted (least first (suc last - first) (fits l ss)) l (totalBits (least first (suc last - first) (fits l ss)) ss)) l ≡ k = cc (p .1) in
     let f = fit-levelled l ss (least first (suc last - first) (fits l ss)) boost (b .0) in

@@ -12,6 +12,7 @@ use Rattle.standard.specs.Numbers.{least}
 use Rattle.standard.specs.Sizes.{capacity}
 use Rattle.standard.specs.Segments.{Segment, totalBits, lengthsFit, fits}
 use Rattle.standard.specs.Plan.{Refusal, refusal, unplanned, planned, lowestFit, tooLong, levelled, planFit}
+use Rattle.laws.specs.Least.{least-here, least-later}
 use Rattle.encoder.specs.declared.plan.Fit.{Fit}
 use Rattle.encoder.specs.declared.plan.Fit.the-variants.{Fits, TooMany, TooLong}
 use Rattle.encoder.specs.Fitting.{fitAt}
@@ -64,14 +65,6 @@ module _ (l : ℕ) (ss : List Segment) (v : ℕ) where
       go true p false q e = let z : _≡_ {A = ℕ} 0 1 = cc in absurd (omega arith)
       go false p b q e = (rw p, rw p)
 
--- ---- the least
-
-least-here : (k n : ℕ) (p : ℕ → Bool) → p k ≡ true → least k (suc n) p ≡ k
-least-here k n p e = ap (λ (b : Bool). elim b as (λ _. ℕ) [ true ↦ k | false ↦ least (suc k) n p ]) e
-
-least-later : (k n : ℕ) (p : ℕ → Bool) → p k ≡ false → least k (suc n) p ≡ least (suc k) n p
-least-later k n p e = ap (λ (b : Bool). elim b as (λ _. ℕ) [ true ↦ k | false ↦ least (suc k) n p ]) e
-
 -- ---- the loop: no version below v fits
 
 pub record Searched (l first last v : ℕ) (ss : List Segment) : Type 0 where
@@ -93,7 +86,7 @@ module _ (l first last : ℕ) (ss : List Segment) where
         high = omega arith;
         same = st .same
             ∙ ap (λ (n : ℕ). least v n (fits l ss)) more
-            ∙ least-later v (last - v) (fits l ss) never
+            ∙ least-later (fits l ss) v (last - v) never
             ∙ ap (λ (n : ℕ). least (suc v) n (fits l ss)) rest
             ∙ ap (λ (k : ℕ). least k (suc last - (v + 1)) (fits l ss)) (sym (add-one v));
       }
@@ -102,14 +95,14 @@ module _ (l first last : ℕ) (ss : List Segment) where
   unfolding lowestFit
   found v st holds =
       let some : suc last - v ≡ suc (last - v) = omega (arith, st .high) in
-      st .same ∙ ap (λ (n : ℕ). least v n (fits l ss)) some ∙ least-here v (last - v) (fits l ss) holds
+      st .same ∙ ap (λ (n : ℕ). least v n (fits l ss)) some ∙ least-here (fits l ss) v (last - v) holds
 
   pub missed : (v : ℕ) → Searched l first last v ss → fits l ss v ≡ false → last ≤ v → lowestFit l first last ss ≡ suc last
   unfolding lowestFit
   missed v st never h =
       let here : v ≡ last = omega (arith, st .high) in
       let one : suc last - v ≡ 1 = omega arith in
-      st .same ∙ ap (λ (n : ℕ). least v n (fits l ss)) one ∙ least-later v 0 (fits l ss) never ∙ ap suc here
+      st .same ∙ ap (λ (n : ℕ). least v n (fits l ss)) one ∙ least-later (fits l ss) v 0 never ∙ ap suc here
 
   missed-plan : (boost : Bool) (v : ℕ) (e : Refusal) → Searched l first last v ss → (fits l ss v ≡ false) × (e ≡ tooLong l v ss) → last ≤ v
       → unplanned e ≡ planFit l first last boost ss

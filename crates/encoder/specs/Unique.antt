@@ -1,10 +1,10 @@
 -- Theorems over the definition: any two outcomes that meet an entry's promise are equal, answer and lent memory;
 -- the text and byte entries are the entry of segment lists; and the size rule.
 -- Assumes nothing.
-use Prim.Native.Nat.{ℕ, zero, suc, _+_, _-_, _≤_, _<_}
-use mathlib.Core.Bool.{Bool, true, false, true≢false}
+use Prim.Native.Nat.{ℕ, zero, suc, _+_, _-_, _≤_}
+use mathlib.Core.Bool.{Bool, true, false}
 use mathlib.Core.List.{List}
-use mathlib.Core.Path.{_≡_, refl, sym, ap, _∙_}
+use mathlib.Core.Path.{_≡_, refl, sym, _∙_}
 use native.Mathlib.Nat.{add-zero, add-suc}
 use native.Mathlib.Numerals.{add-one}
 use native.Mathlib.Omega.{arith}
@@ -14,7 +14,7 @@ use Rattle.standard.specs.Numbers.{least}
 use Rattle.standard.specs.Segments.{Part, Segment, textParts, byteParts, fits}
 use Rattle.standard.specs.Plan.{unplanned, planned, lowestFit, tooLong, levelled, planFit}
 use Rattle.standard.specs.Encode.{Return, encode, encodeText, encodeBytes, encodeCodewords}
-use Rattle.laws.specs.Tests.{split}
+use Rattle.laws.specs.Least.{least-le}
 use Rattle.encoder.specs.Search.{Searched, search-start, search-next, missed}
 use Rattle.encoder.specs.Ready.{fit-planned}
 
@@ -48,17 +48,6 @@ bytes-are-list l first last m boost text g s = refl
 
 -- ---- size: refused exactly when no version of the range fits
 
-least-le : (k n : ℕ) (p : ℕ → Bool) (v : ℕ) → k ≤ v → v < k + n → p v ≡ true → least k n p ≤ v
-least-le k zero p v low high e = absurd (omega arith)
-least-le k (suc n) p v low high e = go (p k) refl (λ l. least-le (suc k) n p v l (omega arith) e)
-  where
-    later : p k ≡ false → suc k ≤ v
-    later f = split v (suc k) (λ h. let same : v ≡ k = omega arith in absurd (true≢false (sym e ∙ ap p same ∙ f))) (λ h. h)
-
-    go : (b : Bool) → p k ≡ b → (suc k ≤ v → least (suc k) n p ≤ v) → elim b as (λ _. ℕ) [ true ↦ k | false ↦ least (suc k) n p ] ≤ v
-    go true f rest = low
-    go false f rest = rest (later f)
-
 module _ (l first last : ℕ) (boost : Bool) (ss : List Segment) (range : first ≤ last) where
   -- no version fits: then the refusal is the last version's, 6 or 7
   pub none-fits : ((v : ℕ) → first ≤ v → v ≤ last → fits l ss v ≡ false) → planFit l first last boost ss ≡ unplanned (tooLong l last ss)
@@ -86,5 +75,5 @@ module _ (l first last : ℕ) (boost : Bool) (ss : List Segment) (range : first 
       → (lowestFit l first last ss ≤ v) × (planFit l first last boost ss ≡ levelled (lowestFit l first last ss) l boost ss)
   unfolding planFit lowestFit
   some-fits v low high e =
-      let h : least first (suc last - first) (fits l ss) ≤ v = least-le first (suc last - first) (fits l ss) v low (omega arith) e in
+      let h : least first (suc last - first) (fits l ss) ≤ v = least-le (fits l ss) first (suc last - first) v low (omega arith) e in
       (h, rw (le-ltb last (least first (suc last - first) (fits l ss)) (omega arith)))

@@ -1,4 +1,5 @@
 pub mod Tests
+pub mod Least
 pub mod Lists
 pub mod Computed
 pub mod Sums

@@ -5,7 +5,6 @@ use mathlib.Core.List.{List}
 use mathlib.Core.Logic.{_⊎_, inl, inr}
 use mathlib.Core.Bool.{Bool, true, false, cond, _&&_, _||_}
 use Prim.Native.Nat.{ℕ, zero, suc, _+_, _≤_, _<_}
-use native.Mathlib.Nat.{le-antisymm}
 use native.Mathlib.Numerals.{add-one}
 use native.Mathlib.Omega.{arith}
 use lib.Dec.{ltb, eqb}
@@ -75,6 +74,3 @@ module _ (side : ℕ) (px py c : ℕ → ℕ) (g : List ℕ) where
       → i ≡ paint side (twins (n + 1) px py c) g
   unfolding marks twin
   twins-next n a b w h i e f ea eb ew = f ∙ rw (e, ea, eb, ew, add-one) (paint-paint side _ _ g)
-
-  pub twins-end : (n m : ℕ) (h : List ℕ) → h ≡ paint side (twins n px py c) g → n ≤ m → m ≤ n → h ≡ paint side (twins m px py c) g
-  twins-end n m h e l k = rw (le-antisymm l k) at e

@@ -41,9 +41,6 @@ sum-le f c k (suc n) h = omega (arith, h k, sum-le f c (suc k) n h)
 
 -- ---- a loop that adds up
 
-pub sum-none : (f : ℕ → ℕ) → 0 ≡ sum (tabulate 0 f)
-sum-none f = refl
-
 pub sum-next : (f : ℕ → ℕ) (n a b : ℕ) → a ≡ sum (tabulate n f) → b ≡ f n → a + b ≡ sum (tabulate (n + 1) f)
 sum-next f n a b e q =
     ap₂ _+_ e (q ∙ sym (add-zero (f n)) ∙ ap (λ (m : ℕ). f m + 0) (sym (zero-add n)))

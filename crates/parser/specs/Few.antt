@@ -1,16 +1,21 @@
--- A record has at least 12 bits, so a fitting list has at most 1,970 records.
+-- A record has at least 12 bits, and ten bits hold at most three characters: a fitting list has at most 1,970 records and 7,089 characters.
 -- Assumes nothing.
-use Prim.Native.Nat.{ℕ, zero, suc, _*_, _≤_}
+use Prim.Native.Nat.{ℕ, zero, suc, _+_, _*_, _^_, _≤_, _<_}
 use mathlib.Core.Bool.{Bool, true, false, cond}
 use mathlib.Core.List.{List, [], _∷_}
+use mathlib.Core.Logic.{_⊎_, inl, inr, ⊎-elim}
+use mathlib.Core.Path.{_≡_}
+use native.Mathlib.Nat.{mul-le-mul}
 use native.Mathlib.Omega.{arith}
-use lib.Dec.{T, leb, ltb, leb→le, lit≤}
-use lib.ListN.{length}
-use Rattle.standard.specs.Sizes.{dataCodewords, capacity}
-use Rattle.standard.specs.Kinds.{byKind, countWidth, eciBits}
+use lib.Dec.{T, leb, ltb, leb→le, ltb→lt, lit≤}
+use lib.ListN.{length, length-append}
+use borrow.Author.Tests.{le-ltb}
+use Rattle.standard.specs.Sizes.{centres, rawModules, rawCodewords, dataCodewords, capacity}
+use Rattle.standard.specs.Kinds.{byKind, countWidth, digit, code, digitBits, pairNumber, pairBits, byteBits, eciBits}
 use Rattle.standard.specs.Bits.{bits}
 use Rattle.standard.specs.Segments.{Segment, payload, segmentSize, totalBits, lengthsFit, fits}
-use Rattle.laws.specs.Tests.{and-right}
+use Rattle.standard.specs.Read.{characters}
+use Rattle.laws.specs.Tests.{and-left, and-right, split}
 use Rattle.laws.specs.Lists.{length-bits}
 use Rattle.counts.specs.Ranges.{pair-range}
 
@@ -58,3 +63,81 @@ unfolding fits capacity
 few-records v l ss low high h t =
     let room : totalBits v ss ≤ 8 * dataCodewords v l = leb→le (totalBits v ss) (8 * dataCodewords v l) (and-right (lengthsFit v ss) (leb (totalBits v ss) (8 * dataCodewords v l)) t) in
     omega (arith, few-bits v ss, pair-range v l low high h .words)
+
+-- ---- ten bits hold at most three characters
+
+digits-long : (cs : List ℕ) → 10 * length cs ≤ 3 * length (digitBits cs)
+unfolding digitBits
+digits-long [] = omega arith
+digits-long (a ∷ []) = omega (arith, length-bits 4 (digit a))
+digits-long (a ∷ b ∷ []) = omega (arith, length-bits 7 (10 * digit a + digit b))
+digits-long (a ∷ b ∷ c ∷ r) =
+    let n : ℕ = 100 * digit a + 10 * digit b + digit c in
+    omega (arith, length-append (bits 10 n) (digitBits r), length-bits 10 n, digits-long r)
+
+pairs-long : (cs : List ℕ) → 10 * length cs ≤ 3 * length (pairBits cs)
+unfolding pairBits
+pairs-long [] = omega arith
+pairs-long (a ∷ []) = omega (arith, length-bits 6 (code a))
+pairs-long (a ∷ b ∷ r) = omega (arith, length-append (bits 11 (pairNumber a b)) (pairBits r), length-bits 11 (pairNumber a b), pairs-long r)
+
+bytes-long : (cs : List ℕ) → 10 * length cs ≤ 3 * length (byteBits cs)
+unfolding byteBits
+bytes-long [] = omega arith
+bytes-long (a ∷ r) = omega (arith, length-append (bits 8 a) (byteBits r), length-bits 8 a, bytes-long r)
+
+-- from version 10 on a count field has at least 11 bits
+count-longer : (v k : ℕ) → 10 ≤ v → k ≤ 2 → 11 ≤ countWidth v k
+count-longer v k low h = rw (le-ltb v 10 low) (go k h (ltb v 27))
+  where
+    go : (k : ℕ) → k ≤ 2 → (t : Bool) → 11 ≤ byKind k (cond t 12 14) (cond t 11 13) (cond t 16 16) 0
+    go zero h true = lit≤ tt
+    go zero h false = lit≤ tt
+    go (suc zero) h true = lit≤ tt
+    go (suc zero) h false = lit≤ tt
+    go (suc (suc zero)) h true = lit≤ tt
+    go (suc (suc zero)) h false = lit≤ tt
+    go (suc (suc (suc k))) h t = absurd (omega arith)
+
+-- a segment has no characters, or they and the bits before them take their bits
+module _ (v : ℕ) where
+  Roomy : List ℕ → ℕ → Type 0
+  Roomy cs n = (length cs ≡ 0) ⊎ ((10 * length cs ≤ 3 * n) × (10 ≤ v → 10 * length cs + 45 ≤ 3 * n))
+
+  segment-roomy : (k : ℕ) (cs : List ℕ) (n : ℕ) → length cs < 2 ^ countWidth v k → Roomy cs (segmentSize v (record { kind = k; chars = cs; assign = n }))
+  unfolding Roomy segmentSize payload
+  segment-roomy zero cs n h = inr (omega (arith, digits-long cs), λ low. omega (arith, digits-long cs, count-longer v 0 low (lit≤ tt)))
+  segment-roomy (suc zero) cs n h = inr (omega (arith, pairs-long cs), λ low. omega (arith, pairs-long cs, count-longer v 1 low (lit≤ tt)))
+  segment-roomy (suc (suc zero)) cs n h = inr (omega (arith, bytes-long cs), λ low. omega (arith, bytes-long cs, count-longer v 2 low (lit≤ tt)))
+  segment-roomy (suc (suc (suc k))) cs n h = inl (omega arith)
+
+  roomy : (ss : List Segment) → T (lengthsFit v ss) → Roomy (characters ss) (totalBits v ss)
+  unfolding Roomy totalBits lengthsFit
+  roomy [] t = inl (omega arith)
+  roomy (s ∷ ss) t =
+      let l = length-append (s .chars) (characters ss) in
+      let fit = ltb→lt (length (s .chars)) (2 ^ countWidth v (s .kind)) (and-left (ltb (length (s .chars)) (2 ^ countWidth v (s .kind))) _ t) in
+      ⊎-elim
+      (λ a. ⊎-elim (λ b. inl (omega (arith, l))) (λ b. inr (omega (arith, l, b .0), λ low. omega (arith, l, b .1 low))) (roomy ss (and-right _ (lengthsFit v ss) t)))
+      (λ a.
+      ⊎-elim (λ b. inr (omega (arith, l, a .0), λ low. omega (arith, l, a .1 low))) (λ b. inr (omega (arith, l, a .0, b .0), λ low. omega (arith, l, a .1 low, b .0)))
+      (roomy ss (and-right _ (lengthsFit v ss) t)))
+      (segment-roomy (s .kind) (s .chars) (s .assign) fit)
+
+-- up to version 9 there is little room
+small-room : (v l : ℕ) → 1 ≤ v → v ≤ 9 → l ≤ 3 → dataCodewords v l ≤ 314
+unfolding rawCodewords rawModules
+small-room v l low high h =
+    let most : (16 * v + 128) * v ≤ 272 * 9 = mul-le-mul (omega arith) high in
+    omega (arith, most, pair-range v l low (omega arith) h .whole)
+
+-- a fitting list has at most 7,089 characters
+pub few-characters : (v l : ℕ) (ss : List Segment) → 1 ≤ v → v ≤ 40 → l ≤ 3 → T (fits l ss v) → length (characters ss) ≤ 7_089
+unfolding fits capacity Roomy
+few-characters v l ss low high h t =
+    let room : totalBits v ss ≤ 8 * dataCodewords v l = leb→le (totalBits v ss) (8 * dataCodewords v l) (and-right (lengthsFit v ss) (leb (totalBits v ss) (8 * dataCodewords v l)) t) in
+    ⊎-elim (λ none. omega arith)
+    (λ some.
+    split v 10 (λ small. omega (arith, some .0, small-room v l low (omega arith) h))
+    (λ large. omega (arith, some .1 large, pair-range v l low high h .words)))
+    (roomy v ss (and-left (lengthsFit v ss) _ t))

@@ -7,8 +7,9 @@ use Prim.Native.Nat.{ℕ, zero, suc, _+_, _-_, _*_, _/_, _≤_}
 use native.Mathlib.Omega.{arith}
 use lib.Dec.{leb, eqb}
 use lib.ListN.{length, replicate}
-use Rattle.standard.specs.Numbers.{apart, one, least, sum, tabulate}
+use Rattle.standard.specs.Numbers.{apart, one, sum, tabulate}
 use Rattle.standard.specs.Penalty.{row, column, runsFrom, runs, runCost, coreCount, coreAt, cores, bordered, lineCost, square, squares, balance, penalty}
+use Rattle.laws.specs.Least.{least-within}
 use Rattle.laws.specs.Lists.{length-tabulate}
 use Rattle.laws.specs.Sums.{sum-le}
 use Rattle.penalty.specs.Scan.{border-runs, zeros-run}
@@ -73,17 +74,9 @@ line-le s xs e l =
 
 -- ---- the whole grid
 
-least-le : (k n : ℕ) (p : ℕ → Bool) → least k n p ≤ k + n
-least-le k zero p = omega arith
-least-le k (suc n) p = go (p k) (least-le (suc k) n p)
-  where
-    go : (b : Bool) → least (suc k) n p ≤ suc k + n → elim b [ true ↦ k | false ↦ least (suc k) n p ] ≤ k + suc n
-    go true h = omega arith
-    go false h = omega arith
-
 pub balance-le : (dark total : ℕ) → balance dark total ≤ 10
 unfolding balance
-balance-le dark total = least-le 0 10 (λ k. leb (apart (20 * dark) (10 * total)) ((k + 1) * total))
+balance-le dark total = least-within (λ k. leb (apart (20 * dark) (10 * total)) ((k + 1) * total)) 0 10
 
 pub squares-le : (s : ℕ) (g : List ℕ) (y : ℕ) → squares s g y ≤ s - 1
 unfolding squares

@@ -3,14 +3,14 @@
 use mathlib.Core.Path.{_≡_, refl, sym, ap, _∙_}
 use mathlib.Core.List.{List}
 use Prim.Native.Nat.{ℕ, zero, suc, _+_, _*_, _%_, _<_}
-use native.Mathlib.Nat.{mod-lt, mod-eq-of-lt, zero-lt-suc, add-comm}
+use native.Mathlib.Nat.{mod-lt, zero-lt-suc, add-comm}
 use native.Mathlib.Omega.{arith}
 use lib.Arith.{digits-lt}
 use lib.ListN.{length, getD}
 use Rattle.standard.specs.Numbers.{from, tabulate}
 use Rattle.standard.specs.Penalty.{moduleOf, row, column}
 use Rattle.laws.specs.Tests.{split}
-use Rattle.laws.specs.Lists.{length-tabulate, getD-tabulate, is-tabulate, from-cong}
+use Rattle.laws.specs.Lists.{length-tabulate, getD-tabulate, from-cong}
 use Rattle.laws.specs.Each.{each}
 use Rattle.penalty.specs.Scan.{Modules, past}
 use Rattle.penalty.specs.Windows.{is}
@@ -18,11 +18,6 @@ use Rattle.penalty.specs.Windows.{is}
 -- the colour of a byte of a work grid is its lowest digit
 abbrev pub colours : List ℕ → List ℕ
 colours g = each (λ _ k. k % 2) g
-
--- a grid of bytes 0 and 1 is its own colours
-pub colours-same : (g : List ℕ) → ((i : ℕ) → i < length g → getD g i 0 < 2) → g ≡ colours g
-unfolding each
-colours-same g h = is-tabulate 0 g (length g) (λ k. getD g k 0 % 2) refl (λ i l. sym (mod-eq-of-lt (h i l)))
 
 pub colour-at : (g : List ℕ) (k : ℕ) → getD (colours g) k 0 ≡ getD g k 0 % 2
 unfolding each

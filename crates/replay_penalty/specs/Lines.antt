@@ -3,7 +3,6 @@
 use mathlib.Core.Path.{_≡_, ap, _∙_}
 use mathlib.Core.List.{List}
 use Prim.Native.Nat.{ℕ, _*_, _≤_}
-use native.Mathlib.Omega.{arith}
 use lib.ListN.{length}
 use Rattle.laws.specs.Grid.{Square, paint, length-paint}
 use Rattle.modules.specs.Mask.{masked}

@@ -60,9 +60,6 @@ module _ (buf : List ℕ) (at room t : ℕ) (f : Free buf at (endBits room at)) 
   pub end-free : Free buf at (bits t 0)
   end-free = first-free buf at (endBits room at) (bits t 0) (replicate (fillWidth (at + t)) 0) f parts
 
-  pub end-fits : t < 2 ^ 8
-  end-fits = omega arith
-
   pub end-32 : t ≤ 32
   end-32 = omega arith
 

@@ -130,9 +130,6 @@ module _ (text ns : List ℕ) (i : ℕ) (t : T (every (goodPart text) (partsOf n
   pub kind-8 : getD ns (4 * i) 0 < 2 ^ 8
   kind-8 = omega (arith, numbers-at .kind)
 
-  pub end-64 : (n : ℕ) → length text ≡ n → n < 2 ^ 64 → getD ns (4 * i + 1) 0 + getD ns (4 * i + 2) 0 < 2 ^ 64
-  end-64 n e b = omega (arith, numbers-at .inside)
-
   pub assign-32 : getD ns (4 * i + 3) 0 < 2 ^ 32
   assign-32 = omega (arith, numbers-at .assign)
 

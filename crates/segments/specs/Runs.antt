@@ -78,12 +78,6 @@ bits-turn k (suc n) cs h =
 abbrev pub runSize : ℕ → ℕ → ℕ
 runSize k n = n / size k * width k (size k) + width k (n % size k)
 
-no-width : (k : ℕ) → width k 0 ≡ 0
-no-width zero = refl
-no-width (suc zero) = refl
-no-width (suc (suc zero)) = refl
-no-width (suc (suc (suc k))) = refl
-
 size-none : (k : ℕ) → 0 ≡ runSize k 0
 size-none zero = refl
 size-none (suc zero) = refl

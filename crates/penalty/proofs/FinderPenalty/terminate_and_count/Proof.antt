@@ -18,7 +18,7 @@ use prog.Wp.{Heap, Env, Calls, Loops, WpFn, Tables}
 use ghost.Atoms.{Atoms, sem}
 use contract.Monad.{Fun, fact}
 use contract.Running.{givenOf, tables, tablesOf}
-use types.Kit.{Given, Item, ‵, raw, _⊛_, some, later, ⋆, runs, atRet, Sq, _$_, _∵_, !, qed, by, move, keep, drop, use1, use2, use3, split, join, pick, rewrite, fsplit, fjoin, fpick, fpack, suffices, frame, await, done}
+use types.Kit.{Given, Item, ‵, raw, _⊛_, some, later, runs, atRet, Sq, _$_, _∵_, !, qed, by, move, keep, drop, use1, use2, use3, split, join, pick, rewrite, fsplit, fjoin, fpick, fpack, suffices, frame, await, done}
 use types.Part.{whole, sub, look-in}
 use types.Run.{look, init, store, forget, stop, fld, from, load, of-opd, bin, addr, and-then, no-more, land, assigns, first, skips, branches, returns-within, returns, enter, alloc1, alloc0, params1, pass1, pass0, free1, free0, exec}
 use types.SemTy.{Body}
