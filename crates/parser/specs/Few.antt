@@ -10,7 +10,8 @@ use native.Mathlib.Omega.{arith}
 use lib.Dec.{T, leb, ltb, leb→le, ltb→lt, lit≤}
 use lib.ListN.{length, length-append}
 use borrow.Author.Tests.{le-ltb}
-use Rattle.standard.specs.Sizes.{centres, rawModules, rawCodewords, dataCodewords, capacity}
+use Rattle.standard.specs.Numbers.{every}
+use Rattle.standard.specs.Sizes.{rawModules, rawCodewords, dataCodewords, capacity}
 use Rattle.standard.specs.Kinds.{byKind, countWidth, digit, code, digitBits, pairNumber, pairBits, byteBits, eciBits}
 use Rattle.standard.specs.Bits.{bits}
 use Rattle.standard.specs.Segments.{Segment, payload, segmentSize, totalBits, lengthsFit, fits}
@@ -111,33 +112,38 @@ module _ (v : ℕ) where
   segment-roomy (suc (suc zero)) cs n h = inr (omega (arith, bytes-long cs), λ low. omega (arith, bytes-long cs, count-longer v 2 low (lit≤ tt)))
   segment-roomy (suc (suc (suc k))) cs n h = inl (omega arith)
 
-  roomy : (ss : List Segment) → T (lengthsFit v ss) → Roomy (characters ss) (totalBits v ss)
-  unfolding Roomy totalBits lengthsFit
+  short : Segment → Bool
+  short s = ltb (length (s .chars)) (2 ^ countWidth v (s .kind))
+
+  roomy : (ss : List Segment) → T (every short ss) → Roomy (characters ss) (totalBits v ss)
+  unfolding Roomy totalBits short
   roomy [] t = inl (omega arith)
   roomy (s ∷ ss) t =
       let l = length-append (s .chars) (characters ss) in
-      let fit = ltb→lt (length (s .chars)) (2 ^ countWidth v (s .kind)) (and-left (ltb (length (s .chars)) (2 ^ countWidth v (s .kind))) _ t) in
+      let first : T (short s) = and-left (short s) (every short ss) t in
+      let rest : Roomy (characters ss) (totalBits v ss) = roomy ss (and-right (short s) (every short ss) t) in
       ⊎-elim
-      (λ a. ⊎-elim (λ b. inl (omega (arith, l))) (λ b. inr (omega (arith, l, b .0), λ low. omega (arith, l, b .1 low))) (roomy ss (and-right _ (lengthsFit v ss) t)))
+      (λ a. ⊎-elim (λ b. inl (omega (arith, l))) (λ b. inr (omega (arith, l, b .0), λ low. omega (arith, l, b .1 low))) rest)
       (λ a.
-      ⊎-elim (λ b. inr (omega (arith, l, a .0), λ low. omega (arith, l, a .1 low))) (λ b. inr (omega (arith, l, a .0, b .0), λ low. omega (arith, l, a .1 low, b .0)))
-      (roomy ss (and-right _ (lengthsFit v ss) t)))
-      (segment-roomy (s .kind) (s .chars) (s .assign) fit)
+      ⊎-elim (λ b. inr (omega (arith, l, a .0), λ low. omega (arith, l, a .1 low)))
+      (λ b. inr (omega (arith, l, a .0, b .0), λ low. omega (arith, l, a .1 low, b .0))) rest)
+      (segment-roomy (s .kind) (s .chars) (s .assign) (ltb→lt (length (s .chars)) (2 ^ countWidth v (s .kind)) first))
 
 -- up to version 9 there is little room
 small-room : (v l : ℕ) → 1 ≤ v → v ≤ 9 → l ≤ 3 → dataCodewords v l ≤ 314
 unfolding rawCodewords rawModules
 small-room v l low high h =
-    let most : (16 * v + 128) * v ≤ 272 * 9 = mul-le-mul (omega arith) high in
+    let factor : 16 * v + 128 ≤ 272 = omega arith in
+    let most : (16 * v + 128) * v ≤ 272 * 9 = mul-le-mul factor high in
     omega (arith, most, pair-range v l low (omega arith) h .whole)
 
 -- a fitting list has at most 7,089 characters
 pub few-characters : (v l : ℕ) (ss : List Segment) → 1 ≤ v → v ≤ 40 → l ≤ 3 → T (fits l ss v) → length (characters ss) ≤ 7_089
-unfolding fits capacity Roomy
+unfolding fits capacity lengthsFit Roomy short
 few-characters v l ss low high h t =
     let room : totalBits v ss ≤ 8 * dataCodewords v l = leb→le (totalBits v ss) (8 * dataCodewords v l) (and-right (lengthsFit v ss) (leb (totalBits v ss) (8 * dataCodewords v l)) t) in
     ⊎-elim (λ none. omega arith)
     (λ some.
     split v 10 (λ small. omega (arith, some .0, small-room v l low (omega arith) h))
     (λ large. omega (arith, some .1 large, pair-range v l low high h .words)))
-    (roomy v ss (and-left (lengthsFit v ss) _ t))
+    (roomy v ss (and-left (lengthsFit v ss) (leb (totalBits v ss) (8 * dataCodewords v l)) t))
