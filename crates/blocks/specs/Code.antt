@@ -7,12 +7,11 @@ use mathlib.Core.Path.{_≡_, refl, ap}
 use native.Mathlib.Nat.{mod-lt, div-lt-iff-lt-mul, add-mul, mul-comm, mul-le-mul, mul-le-mul-right}
 use native.Mathlib.Omega.{arith}
 use lib.ListN.{length, getD, set}
-use lib.Arith.{digits-lt}
 use lib.Dec.{ltb}
-use borrow.Author.Tests.{lt-ltb, le-ltb, ltb-true, ltb-false}
+use borrow.Author.Tests.{ltb-true, ltb-false}
 use Rattle.laws.specs.Each.{eachDone, each-next}
 use Rattle.blocks.specs.Shape.{Shape, dataIn, startIn, sourceIn}
-use Rattle.blocks.specs.Undo.{placeIn, positionIn}
+use Rattle.blocks.specs.Undo.{positionIn}
 
 pub product-small : (i s : ℕ) → i ≤ 81 → s ≤ 255 → i * s ≤ 20655
 product-small i s h l = mul-le-mul h l
@@ -22,7 +21,7 @@ row-small c n h l = mul-le-mul h l
 
 -- ---- where a byte of the interleaved data comes from
 
-source-lt : {n s b : ℕ} → Shape n s b → (p : ℕ) → p < dataIn n s b → sourceIn n s b p < dataIn n s b
+pub source-lt : {n s b : ℕ} → Shape n s b → (p : ℕ) → p < dataIn n s b → sourceIn n s b p < dataIn n s b
 unfolding sourceIn
 source-lt {n} {s} {b} k p h = go (ltb p (s * n)) refl
   where
@@ -43,29 +42,6 @@ source-lt {n} {s} {b} k p h = go (ltb p (s * n)) refl
         let b' : (b + (p - s * n) + 1) * s ≡ (b + (p - s * n)) * s + s = omega (arith, add-mul (b + (p - s * n)) 1 s) in
         omega (arith, turn)
 
-module _ {n s b : ℕ} (k : Shape n s b) (p r : ℕ) (inside : p < dataIn n s b) where
-  pub source-early : p < s * n → r ≡ startIn s b (p % n) → (r + p / n ≡ sourceIn n s b p) × (r + p / n < dataIn n s b)
-  unfolding sourceIn
-  source-early h e =
-      let q : r + p / n ≡ sourceIn n s b p = rw (lt-ltb p (s * n) h, e) in
-      (q, omega (arith, source-lt k p inside))
-
-  pub source-late : s * n ≤ p → r ≡ startIn s b (b + (p - s * n)) → (r + s ≡ sourceIn n s b p) × (r + s < dataIn n s b)
-  unfolding sourceIn
-  source-late h e =
-      let q : r + s ≡ sourceIn n s b p = rw (le-ltb p (s * n) h, e) in
-      (q, omega (arith, source-lt k p inside))
-
--- ---- where a data byte stands
-
-pub position-early : (n s b d r : ℕ) → d < b * s → r ≡ placeIn n s b (d / s) (d % s) → r ≡ positionIn n s b d
-unfolding positionIn
-position-early n s b d r h e = rw (lt-ltb d (b * s) h) e
-
-pub position-late : (n s b d r : ℕ) → b * s ≤ d → r ≡ placeIn n s b (b + (d - b * s) / (s + 1)) ((d - b * s) % (s + 1)) → r ≡ positionIn n s b d
-unfolding positionIn
-position-late n s b d r h e = rw (le-ltb d (b * s) h) e
-
 -- ---- a loop that fetches: out[p] = xs[src p]
 
 fetch-next : (src : ℕ → ℕ) (xs g : List ℕ) (p at m : ℕ) (h : List ℕ) → h ≡ eachDone p (λ p _. getD xs (src p) 0) g → length h ≡ m → p < m → at ≡ src p
@@ -79,6 +55,3 @@ source-next n s b = fetch-next (sourceIn n s b)
 pub position-next : (n s b : ℕ) (xs g : List ℕ) (p at m : ℕ) (h : List ℕ) → h ≡ eachDone p (λ d _. getD xs (positionIn n s b d) 0) g → length h ≡ m → p < m → at ≡ positionIn n s b p
     → set h p (getD xs at 0) ≡ eachDone (p + 1) (λ d _. getD xs (positionIn n s b d) 0) g
 position-next n s b = fetch-next (positionIn n s b)
-
-pub check-source : (n c q : ℕ) → 0 < n → q < c * n → q % n * c + q / n < n * c
-check-source n c q some h = digits-lt (mod-lt q some) (div-lt-iff-lt-mul some .1 h)

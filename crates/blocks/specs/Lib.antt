@@ -2,6 +2,7 @@ pub mod Shape
 pub mod Places
 pub mod Undo
 pub mod Checks
+pub mod Running
 pub mod Words
 pub mod Code
 pub mod SharedOut

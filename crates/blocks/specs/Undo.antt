@@ -37,7 +37,7 @@ module _ {n s b : ℕ} (k : Shape n s b) where
       let e : b + (s * n + (i - b) - s * n) ≡ i = omega arith in
       rw (le-ltb (s * n + (i - b)) (s * n) (omega arith), e)
 
-  source-place : (i c : ℕ) → i < n → c ≤ s → (c ≡ s → b ≤ i) → sourceIn n s b (placeIn n s b i c) ≡ startIn s b i + c
+  pub source-place : (i c : ℕ) → i < n → c ≤ s → (c ≡ s → b ≤ i) → sourceIn n s b (placeIn n s b i c) ≡ startIn s b i + c
   unfolding placeIn
   source-place i c hi hc later = go (ltb c s) refl
     where
@@ -59,20 +59,20 @@ module _ {n s b : ℕ} (k : Shape n s b) where
           omega arith
 
   module _ (d : ℕ) (inside : d < dataIn n s b) where
-    pub early-block : d < b * s → d / s < b
+    early-block : d < b * s → d / s < b
     early-block h = div-lt-iff-lt-mul (k .short) .1 h
 
-    pub early-byte : d % s < s
+    early-byte : d % s < s
     early-byte = mod-lt d (k .short)
 
-    pub late-block : b * s ≤ d → (d - b * s) / (s + 1) < n - b
+    late-block : b * s ≤ d → (d - b * s) / (s + 1) < n - b
     late-block h =
         let e : n ≡ b + (n - b) = omega arith in
         let m : s * n ≡ b * s + (n - b) * s = mul-comm s n ∙ ap (λ (t : ℕ). t * s) e ∙ add-mul b (n - b) s in
         let f : (n - b) * (s + 1) ≡ (n - b) * s + (n - b) = omega (arith, mul-add (n - b) s 1) in
         div-lt-iff-lt-mul {k = s + 1} (omega arith) .1 (omega arith)
 
-    pub late-byte : (d - b * s) % (s + 1) < s + 1
+    late-byte : (d - b * s) % (s + 1) < s + 1
     late-byte = mod-lt (d - b * s) (omega arith)
 
     pub source-position : sourceIn n s b (positionIn n s b d) ≡ d

@@ -21,6 +21,7 @@ use Rattle.laws.specs.Joins.{join-at}
 use Rattle.laws.specs.Each.{each}
 use Rattle.blocks.specs.Places.{check-some, all-long, all-data, all-check}
 use Rattle.blocks.specs.Shape.{startIn, sourceIn}
+use Rattle.blocks.specs.Running.{source-even}
 use Rattle.blocks.specs.Checks.{lengthIn, restIn, restsIn, checksIn}
 
 pub length-each : (f : ℕ → ℕ → ℕ) (g : List ℕ) → length (each f g) ≡ length g
@@ -54,7 +55,7 @@ module _ (v l : ℕ) (xs checks a b : List ℕ) (sh : PairRange v l) (full : len
 
   -- the two parts that the code writes are all codewords
   pub all-written : length a ≡ dataCodewords v l → length b ≡ checkBytes v l * blocks v l → checks ≡ restsIn (divisor (checkBytes v l)) (shortLength v l) (shortBlocks v l) xs (blocks v l)
-      → each (λ p _. getD xs (sourceIn (blocks v l) (shortLength v l) (shortBlocks v l) p) 0) a ++ each (λ q _. getD checks (q % blocks v l * checkBytes v l + q / blocks v l) 0) b ≡ allWords v l xs
+      → each (λ p _. getD xs (sourceIn (blocks v l) (shortLength v l) (shortBlocks v l) p) 0) a ++ each (λ q _. getD checks (sourceIn (blocks v l) (checkBytes v l) (blocks v l) q) 0) b ≡ allWords v l xs
   all-written la lb rest =
       ext-getD 0 (A ++ Z) (allWords v l xs) (long ∙ sym (all-long v l xs sh full)) (λ p h. go p h (ltb p (dataCodewords v l)) refl)
     where
@@ -62,7 +63,7 @@ module _ (v l : ℕ) (xs checks a b : List ℕ) (sh : PairRange v l) (full : len
       A = each (λ p _. getD xs (sourceIn (blocks v l) (shortLength v l) (shortBlocks v l) p) 0) a
 
       Z : List ℕ
-      Z = each (λ q _. getD checks (q % blocks v l * checkBytes v l + q / blocks v l) 0) b
+      Z = each (λ q _. getD checks (sourceIn (blocks v l) (checkBytes v l) (blocks v l) q) 0) b
 
       longA : length A ≡ dataCodewords v l
       longA = length-each _ a ∙ la
@@ -86,7 +87,8 @@ module _ (v l : ℕ) (xs checks a b : List ℕ) (sh : PairRange v l) (full : len
           let small : p - dataCodewords v l < checkBytes v l * blocks v l = omega (arith, long, sh .whole) in
           ap (λ (k : ℕ). getD (A ++ Z) k 0) (sym at)
           ∙ getD-append-add A Z (p - dataCodewords v l) 0
-          ∙ getD-each (λ q _. getD checks (q % blocks v l * checkBytes v l + q / blocks v l) 0) b (p - dataCodewords v l) (omega (arith, lb))
+          ∙ getD-each (λ q _. getD checks (sourceIn (blocks v l) (checkBytes v l) (blocks v l) q) 0) b (p - dataCodewords v l) (omega (arith, lb))
+          ∙ ap (λ (k : ℕ). getD checks k 0) (source-even (blocks v l) (checkBytes v l) (p - dataCodewords v l) (sh .some) small)
           ∙ ap (λ (t : List ℕ). getD t ((p - dataCodewords v l) % blocks v l * checkBytes v l + (p - dataCodewords v l) / blocks v l) 0) rest
           ∙ check-read (p - dataCodewords v l) small
           ∙ ap (λ (k : ℕ). getD (allWords v l xs) k 0) at'
@@ -94,7 +96,7 @@ module _ (v l : ℕ) (xs checks a b : List ℕ) (sh : PairRange v l) (full : len
 -- data and check bytes written over o
 unfoldable pub writtenIn : ℕ → ℕ → ℕ → ℕ → List ℕ → List ℕ → List ℕ → List ℕ
 writtenIn n s b c xs checks o =
-    each (λ p _. getD xs (sourceIn n s b p) 0) (take (length xs) o) ++ each (λ q _. getD checks (q % n * c + q / n) 0) (drop (length xs) o)
+    each (λ p _. getD xs (sourceIn n s b p) 0) (take (length xs) o) ++ each (λ q _. getD checks (sourceIn n c n q) 0) (drop (length xs) o)
 
 -- THE LAW: what the code writes are all codewords
 pub all-words : (v l : ℕ) (xs o : List ℕ) → PairRange v l → length xs ≡ dataCodewords v l → length o ≡ rawCodewords v

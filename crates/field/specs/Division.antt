@@ -73,7 +73,7 @@ unfolding divide
 bytes-divide g r [] hg hr = hr
 bytes-divide g r (b ∷ p) hg hr = bytes-divide g (step g r b) p hg (bytes-step g r b hg hr)
 
-head-lt : (r : List ℕ) → Bytes r → getD r 0 0 < 256
+pub head-lt : (r : List ℕ) → Bytes r → getD r 0 0 < 256
 head-lt [] h = zero-lt-suc 255
 head-lt (a ∷ r) h = h .0
 
@@ -163,6 +163,10 @@ check-unique g p c d hc hd u v =
     ∙ ap (λ (l : List ℕ). l ++ plus c d) (plus-self p ∙ ap zeros (sym lw)) in
     plus-eq-zero c d (hc ∙ sym hd) (low g w (plus c d) (bytes-plus (u .0) (v .0) (u .1) (v .1)) e ∙ ap zeros (sym hc))
 
+pub bytes-remainder : (g p : List ℕ) → Bytes g → Bytes (remainder g p)
+unfolding remainder
+bytes-remainder g p hg = bytes-divide g (zeros (length g)) p hg (bytes-zeros (length g))
+
 -- ---- check bytes: division by the generator of degree d
 
 -- what the code's division by the divisor leaves
@@ -175,8 +179,8 @@ unfolding check
 length-check d p = length-remainder (divisor d) p ∙ length-divisor d
 
 pub bytes-check : (d : ℕ) (p : List ℕ) → Bytes (check d p)
-unfolding check remainder
-bytes-check d p = bytes-divide (divisor d) (zeros (length (divisor d))) p (bytes-divisor d) (bytes-zeros (length (divisor d)))
+unfolding check
+bytes-check d p = bytes-remainder (divisor d) p (bytes-divisor d)
 
 -- a block, data then check bytes, is divisible by the generator
 pub codeword : (d : ℕ) (p : List ℕ) → 0 < d → Bytes p → Divisible (generator d) (p ++ check d p)

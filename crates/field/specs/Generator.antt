@@ -2,15 +2,16 @@
 -- Assumes nothing.
 use mathlib.Core.Path.{_≡_, refl, sym, ap, ap₂, _∙_, subst}
 use mathlib.Core.List.{List, [], _∷_, _++_, append-nil}
-use Prim.Native.Nat.{ℕ, zero, suc, _+_, _-_, _<_}
-use native.Mathlib.Nat.{le-of-suc-le-suc, not-suc-le-zero, zero-lt-suc, suc-inj}
+use Prim.Native.Nat.{ℕ, zero, suc, _+_, _-_, _≤_, _<_}
+use native.Mathlib.Nat.{le-of-suc-le-suc, not-suc-le-zero, zero-lt-suc, suc-inj, add-comm}
 use native.Mathlib.Numerals.{add-one}
 use native.Mathlib.Omega.{arith}
-use lib.ListN.{length, getD, set, drop, length-append, length-replicate, replicate-append-replicate}
-use lib.Seq.{set-at}
+use lib.ListN.{length, getD, set, take, drop, length-append, length-drop, length-replicate, List·getD-eq-default}
+use lib.Seq.{set-getD, getD-at, take-at, drop-at, drop-append-le, drop-drop}
 use lib.Bits.{bitXor, xor-zero-r, xor-comm}
 use lib.Dec.{lit<}
 use Rattle.standard.specs.Field.{times, power, Bytes, zeros, plus, scale, product, generator, divisor}
+use Rattle.laws.specs.Front.{front, front-suc, front-all, front-rest}
 use Rattle.field.specs.Times.{times-zero-l}
 use Rattle.field.specs.Polynomials.{length-plus, length-scale, length-snoc, bytes-plus, bytes-scale, bytes-append, plus-zeros-r, scale-one}
 
@@ -94,6 +95,17 @@ getD-timesRoot r (a ∷ p) (suc j) h =
     let e : suc (j + 1) ≡ suc j + 1 = omega arith in
     getD-timesRoot r p j (le-of-suc-le-suc h) ∙ ap (λ (k : ℕ). bitXor (times (getD p j 0) r) (getD (a ∷ p) k 0)) e
 
+-- a zero after the coefficients stays
+pub front-timesRoot : (r n : ℕ) (p : List ℕ) → length p ≡ n + 1 → getD p n 0 ≡ 0 → front n (timesRoot r p) p ≡ timesRoot r p
+front-timesRoot r n p h z =
+    let s = timesRoot r p in
+    let q = front n s p in
+    let l : length s ≡ length p = length-timesRoot r p in
+    let old : getD q n 0 ≡ 0 = front-rest s p n n (omega arith) (omega arith) ∙ z in
+    let new : getD s n 0 ≡ 0
+    = getD-timesRoot r p n (omega arith) ∙ ap₂ bitXor (ap (λ (x : ℕ). times x r) z ∙ times-zero-l r) (List·getD-eq-default p 0 {n = n + 1} (omega arith)) in
+    sym (set-getD q n 0) ∙ front-suc s p n (getD q n 0) l (omega arith) (old ∙ sym new) ∙ front-all s p (n + 1) l (omega arith)
+
 drop-byRoot : (r a : ℕ) (q : List ℕ) → plus (q ++ (0 ∷ [])) (times a r ∷ scale r q) ≡ timesRoot r (a ∷ q)
 unfolding plus scale timesRoot
 drop-byRoot r a [] = ap (λ (x : ℕ). x ∷ []) (sym (xor-zero-r (times a r)))
@@ -111,33 +123,16 @@ timesRoot-byRoot r [] h = absurd (not-suc-le-zero h)
 timesRoot-byRoot r (a ∷ q) h = sym (drop-byRoot r a q)
 
 -- what the code has after i turns of n: the n lower coefficients of the generator of degree i, with zeros above
-unfoldable pub partial : ℕ → ℕ → List ℕ
+partial : ℕ → ℕ → List ℕ
 partial m i = drop 1 (zeros m ++ generator i)
 
-pub partial-zero : (m : ℕ) → partial (suc m) 0 ≡ zeros m ++ (1 ∷ [])
-unfolding partial generator
-partial-zero m = refl
-
-pub partial-end : (n : ℕ) → partial 0 n ≡ divisor n
-unfolding partial divisor
-partial-end n = refl
-
-pub partial-suc : (m i : ℕ) → timesRoot (power i) (partial (suc m) i) ≡ partial m (suc i)
+partial-suc : (m i : ℕ) → timesRoot (power i) (partial (suc m) i) ≡ partial m (suc i)
 unfolding partial
 partial-suc m i =
     timesRoot-byRoot (power i) (zeros m ++ generator i) (omega (arith, length-append (zeros m) (generator i), length-generator i))
     ∙ ap (drop 1) (byRoot-zeros (power i) m (generator i) ∙ ap (λ (l : List ℕ). zeros m ++ l) (sym (generator-suc i)))
 
--- the code's start, turn and end
-pub start : (n : ℕ) → 0 < n → set (zeros n) (n - 1) 1 ≡ partial (n - 0) 0
-start zero h = absurd (not-suc-le-zero h)
-start (suc m) h =
-    let p : suc m - 1 ≡ m = omega arith in
-    let q : suc m - 0 ≡ suc m = omega arith in
-    ap₂ (λ (l : List ℕ) (k : ℕ). set l k 1) (ap zeros (sym (add-one m)) ∙ sym (replicate-append-replicate m 1 0)) p
-    ∙ set-at (zeros m) 0 [] 1 m (length-replicate {A = ℕ} m 0) ∙ sym (partial-zero m) ∙ ap (λ (k : ℕ). partial k 0) (sym q)
-
-pub turn : (n i : ℕ) → i < n → timesRoot (power i) (partial (n - i) i) ≡ partial (n - (i + 1)) (i + 1)
+turn : (n i : ℕ) → i < n → timesRoot (power i) (partial (n - i) i) ≡ partial (n - (i + 1)) (i + 1)
 turn n i h =
     let p : n - i ≡ suc (n - (i + 1)) = omega arith in
     ap (λ (k : ℕ). timesRoot (power i) (partial k i)) p ∙ partial-suc (n - (i + 1)) i ∙ ap (partial (n - (i + 1))) (sym (add-one i))
@@ -146,7 +141,51 @@ pub power-suc : (i : ℕ) → times (power i) 2 ≡ power (i + 1)
 unfolding power
 power-suc i = ap power (sym (add-one i))
 
-pub finish : (n i : ℕ) → i ≡ n → partial (n - i) i ≡ divisor n
-finish n i e =
-    let p : n - i ≡ 0 = omega arith in
-    ap₂ partial p e ∙ partial-end n
+-- ---- the code's start, turn and end: 32 coefficients, and a zero after them
+
+pub wideAt : ℕ → List ℕ
+wideAt i = partial (32 - i) i ++ (0 ∷ [])
+
+length-partial : (m i : ℕ) → length (partial m i) ≡ m + i
+unfolding partial
+length-partial m i =
+    length-drop 1 (zeros m ++ generator i) ∙ omega (arith, length-append (zeros m) (generator i), length-replicate {A = ℕ} m 0, length-generator i)
+
+length-32 : (i : ℕ) → i ≤ 32 → length (partial (32 - i) i) ≡ 32
+length-32 i h = length-partial (32 - i) i ∙ omega arith
+
+pub wide-start : set (zeros 33) 31 1 ≡ wideAt 0
+unfolding wideAt partial generator
+wide-start = refl
+
+pub wide-length : (i : ℕ) (w : List ℕ) → w ≡ wideAt i → i ≤ 32 → length w ≡ 33
+unfolding wideAt
+wide-length i w e h = ap length e ∙ length-append (partial (32 - i) i) (0 ∷ []) ∙ omega (arith, length-32 i h)
+
+pub wide-last : (i : ℕ) (w : List ℕ) → w ≡ wideAt i → i ≤ 32 → getD w 32 0 ≡ 0
+unfolding wideAt
+wide-last i w e h = ap (λ (l : List ℕ). getD l 32 0) e ∙ getD-at (partial (32 - i) i) 0 [] 0 32 (length-32 i h)
+
+timesRoot-zero : (r : ℕ) (p : List ℕ) → timesRoot r (p ++ (0 ∷ [])) ≡ timesRoot r p ++ (0 ∷ [])
+unfolding timesRoot
+timesRoot-zero r [] = ap (λ (x : ℕ). bitXor x 0 ∷ []) (times-zero-l r)
+timesRoot-zero r (a ∷ []) = ap (λ (l : List ℕ). bitXor (times a r) 0 ∷ l) (timesRoot-zero r [])
+timesRoot-zero r (a ∷ b ∷ p) = ap (λ (l : List ℕ). bitXor (times a r) b ∷ l) (timesRoot-zero r (b ∷ p))
+
+pub wide-turn : (i : ℕ) (w : List ℕ) → w ≡ wideAt i → i < 32 → timesRoot (power i) w ≡ wideAt (i + 1)
+unfolding wideAt
+wide-turn i w e h =
+    ap (timesRoot (power i)) e ∙ timesRoot-zero (power i) (partial (32 - i) i) ∙ ap (λ (l : List ℕ). l ++ (0 ∷ [])) (turn 32 i h)
+
+-- the last d of the coefficients
+pub wide-end : (d : ℕ) (w : List ℕ) → w ≡ wideAt d → d ≤ 32 → take (32 - (32 - d)) (drop (32 - d) w) ≡ divisor d
+unfolding wideAt partial divisor
+wide-end d w e h =
+    let m = 32 - d in
+    let p = partial m d in
+    let z : 32 - m ≡ d = omega arith in
+    let f : drop m p ≡ drop 1 (generator d)
+    = drop-drop m 1 (zeros m ++ generator d) ∙ ap (λ (k : ℕ). drop k (zeros m ++ generator d)) (add-comm 1 m)
+    ∙ sym (drop-drop 1 m (zeros m ++ generator d)) ∙ ap (drop 1) (drop-at (zeros m) (generator d) m (length-replicate {A = ℕ} m 0)) in
+    ap (λ (l : List ℕ). take (32 - m) (drop m l)) e ∙ ap (take (32 - m)) (drop-append-le m p (0 ∷ []) (omega (arith, length-32 d h)))
+    ∙ take-at (drop m p) (0 ∷ []) (32 - m) (length-drop m p ∙ omega (arith, length-32 d h)) ∙ f

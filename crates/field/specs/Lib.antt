@@ -3,3 +3,4 @@ pub mod Reduced
 pub mod Polynomials
 pub mod Generator
 pub mod Division
+pub mod Multiples

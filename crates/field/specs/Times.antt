@@ -1,6 +1,6 @@
 -- The field's laws. `double` and `times` are linear in each argument at all numbers, so what is left of each law is a test at the eight powers of two,
 -- which is computed. Assumes nothing.
-use mathlib.Core.Path.{_≡_, refl, sym, ap, ap₂, _∙_, subst}
+use mathlib.Core.Path.{_≡_, refl, sym, ap, ap₂, _∙_}
 use mathlib.Core.Bool.{Bool}
 use Prim.Native.Nat.{ℕ, zero, suc, _-_, _*_, _/_, _%_, _^_, _<_}
 use native.Mathlib.Nat.{zero-lt-suc, mod-lt, zero-mul, one-mul}
@@ -165,15 +165,12 @@ bit-lt (suc zero) a l h = omega arith
 bit-lt (suc (suc p)) a l h = omega arith
 
 -- a turn of the loop takes in bit j of y
-pub turn : (x y z j : ℕ) → j < 8 → x < 256 → z < 256 → z ≡ timesLow (8 - suc j) x (y / 2 ^ suc j)
-    → (bitXor (bitXor (z * 2 % 256) (z / 128 * 29)) (bitAnd (y / 2 ^ j) 1 * x) < 256)
-    × (bitXor (bitXor (z * 2 % 256) (z / 128 * 29)) (bitAnd (y / 2 ^ j) 1 * x) ≡ timesLow (8 - j) x (y / 2 ^ j))
+pub turn : (x y z d j : ℕ) → j < 8 → d ≡ double z → z ≡ timesLow (8 - suc j) x (y / 2 ^ suc j)
+    → bitXor d (bitAnd (y / 2 ^ j) 1 * x) ≡ timesLow (8 - j) x (y / 2 ^ j)
 unfolding timesLow
-turn x y z j hj hx hz e =
-    let s : bitXor (bitXor (z * 2 % 256) (z / 128 * 29)) (bitAnd (y / 2 ^ j) 1 * x) ≡ timesLow (8 - j) x (y / 2 ^ j)
-    = ap₂ (λ (u v : ℕ). bitXor u (v * x)) (double-byte z hz ∙ ap double (e ∙ ap (timesLow (8 - suc j) x) (ap (λ (k : ℕ). y / 2 ^ k) (sym (add-one j)) ∙ sym (shr-shr y j 1)))) (and-mask (y / 2 ^ j) 1)
-    ∙ ap (λ (k : ℕ). timesLow k x (y / 2 ^ j)) eight in
-    (subst (λ (n : ℕ). n < 256) (sym s) (bits-lt (8 - j) x (y / 2 ^ j) hx), s)
+turn x y z d j hj hd e =
+    ap₂ (λ (u v : ℕ). bitXor u (v * x)) (hd ∙ ap double (e ∙ ap (timesLow (8 - suc j) x) (ap (λ (k : ℕ). y / 2 ^ k) (sym (add-one j)) ∙ sym (shr-shr y j 1)))) (and-mask (y / 2 ^ j) 1)
+    ∙ ap (λ (k : ℕ). timesLow k x (y / 2 ^ j)) eight
   where
     eight : suc (8 - suc j) ≡ 8 - j
     eight = omega arith

@@ -38,9 +38,9 @@ same-length c = search needs
 
 returns : tie.Need-returns
 returns c =
-    let a = c .before .before .before .before .before .before .before .before .args in
+    let a = c .before .before .before .before .before .before .before .before .before .before .args in
     let r = c .before .before .reed-solomon-compute-remainder in
-    mid (a .out .now) (r .last .1 .1 .0) (a .to) (length (a .rsdiv .now))
+    mid (a .out .now) (r .last .1 .1 .1 .1 .0) (a .to) (length (a .rsdiv .now))
     ∙ ap (λ (l : List ℕ). take (a .to) (a .out .now) ++ l ++ drop (a .to + length (a .rsdiv .now)) (a .out .now)) (r .ensures)
 
 pub block-check-spec : {M : Type 1} → statement M

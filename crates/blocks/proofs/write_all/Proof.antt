@@ -12,29 +12,29 @@ use Rattle.blocks.proofs.write_all.Tie as tie
 all-checks-requires : tie.Need-all-checks-requires
 all-checks-requires c κs = search needs
 
-sub-interleave-data : tie.Need-sub-interleave-data
-sub-interleave-data c = search needs
+sub-interleave : tie.Need-sub-interleave
+sub-interleave c = search needs
 
-part-interleave-data-start : tie.Need-part-interleave-data-start
-part-interleave-data-start c = search needs
+part-interleave-start : tie.Need-part-interleave-start
+part-interleave-start c = search needs
 
-part-interleave-data-end : tie.Need-part-interleave-data-end
-part-interleave-data-end c = search needs
+part-interleave-end : tie.Need-part-interleave-end
+part-interleave-end c = search needs
 
-interleave-data-requires : tie.Need-interleave-data-requires
-interleave-data-requires c κs = search needs
+interleave-requires : tie.Need-interleave-requires
+interleave-requires c κs = search needs
 
-sub-interleave-checks : tie.Need-sub-interleave-checks
-sub-interleave-checks c = search needs
+sub-interleave-2 : tie.Need-sub-interleave-2
+sub-interleave-2 c = search needs
 
-part-interleave-checks-start : tie.Need-part-interleave-checks-start
-part-interleave-checks-start c = search needs
+part-interleave-start-2 : tie.Need-part-interleave-start-2
+part-interleave-start-2 c = search needs
 
-part-interleave-checks-end : tie.Need-part-interleave-checks-end
-part-interleave-checks-end c = search needs
+part-interleave-end-2 : tie.Need-part-interleave-end-2
+part-interleave-end-2 c = search needs
 
-interleave-checks-requires : tie.Need-interleave-checks-requires
-interleave-checks-requires c κs = search needs
+interleave-requires-2 : tie.Need-interleave-requires-2
+interleave-requires-2 c κs = search needs
 
 same-length : tie.Need-same-length
 same-length c = search needs
@@ -46,10 +46,10 @@ returns : tie.Need-returns
 unfolding writtenIn
 returns c =
     let a = c .before .before .before .before .before .before .before .before .before .before .before .before .before .before .before .before .args in
-    let d = c .before .before .before .before .before .before .before .interleave-data in
-    let k = c .before .before .interleave-checks in
+    let d = c .before .before .before .before .before .before .before .interleave in
+    let k = c .before .before .interleave2 in
     let o = a .out .now in
-    two-parts _ _ (length (a .«data» .now)) o (d .last .1 .1 .1 .1 .0) (k .last .1 .1 .1 .0) (d .ensures) (k .ensures) (search needs)
+    two-parts _ _ (length (a .«data» .now)) o (d .last .1 .1 .1 .1 .0) (k .last .1 .1 .1 .1 .0) (d .ensures) (k .ensures) (search needs)
     ∙ ap (λ (checks : List ℕ). writtenIn (a .numblocks) (a .shortdatlen) (a .numshortblocks) (a .blockecclen) (a .«data» .now) checks o)
     (c .before .before .before .before .before .before .before .before .before .before .before .all-checks .ensures)
 
@@ -58,14 +58,14 @@ write-all-spec =
     tie.close
     (tie.spec
     all-checks-requires
-    sub-interleave-data
-    part-interleave-data-start
-    part-interleave-data-end
-    interleave-data-requires
-    sub-interleave-checks
-    part-interleave-checks-start
-    part-interleave-checks-end
-    interleave-checks-requires
+    sub-interleave
+    part-interleave-start
+    part-interleave-end
+    interleave-requires
+    sub-interleave-2
+    part-interleave-start-2
+    part-interleave-end-2
+    interleave-requires-2
     same-length
     same-length-2
     returns)

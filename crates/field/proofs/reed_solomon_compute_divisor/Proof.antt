@@ -1,45 +1,33 @@
 -- `field::reed_solomon_compute_divisor` meets its contract.
 -- Assumes nothing.
 use Prim.Native.Nat.{ℕ, _-_, _≤_}
-use mathlib.Core.Path.{_≡_, refl, sym, ap, ap₂, _∙_}
-use mathlib.Core.List.{List}
+use mathlib.Core.Path.{_≡_, refl, sym, ap, _∙_}
 use native.Mathlib.Omega.{arith}
-use Rattle.standard.specs.Field.{power, divisor, zeros}
-use Rattle.field.specs.Generator.{timesRoot, partial, start, turn, finish, power-suc}
-use Rattle.standard.specs.Field.{times}
+use Rattle.standard.specs.Field.{times, power}
+use Rattle.field.specs.Generator.{timesRoot, length-divisor, power-suc, wideAt, wide-start, wide-length, wide-last, wide-turn, wide-end}
 use borrow.Author.Needs.{needs}
-use lib.ListN.{length, set, length-set}
+use lib.ListN.{length}
 use Rattle.field.proofs.reed_solomon_compute_divisor.Statement.{statement}
 use Rattle.field.proofs.reed_solomon_compute_divisor.Tie as tie
 
 abbrev Inv-loop : tie.InvT-loop
-Inv-loop out₀ degree last root₀ i₀ out root i = (i ≤ degree) × (length out ≡ length out₀) × (root ≡ power i) × (out ≡ partial (degree - i) i)
+Inv-loop out degree wide₀ root₀ i₀ wide root i = (i ≤ degree) × (root ≡ power i) × (wide ≡ wideAt i)
 
 abbrev μ-loop : tie.MeasureT-loop
-μ-loop out₀ degree last root₀ i₀ out root i = degree - i
+μ-loop out degree wide₀ root₀ i₀ wide root i = degree - i
 
-clear-requires : tie.Need-clear-requires Inv-loop μ-loop
-clear-requires c κs = search needs
-
-sub-last : tie.Need-sub-last Inv-loop μ-loop
-sub-last c = search needs
-
-slice-write-out : tie.Need-slice-write-out Inv-loop μ-loop
-slice-write-out c = search needs
+array-write-wide : tie.Need-array-write-wide Inv-loop μ-loop
+array-write-wide c = search needs
 
 loop-holds : tie.Need-loop-holds Inv-loop μ-loop
 unfolding power
-loop-holds c =
-    let z = c .before .before .clear .last .0 in
-    let e : z ≡ zeros (length z) = c .before .before .clear .ensures ∙ ap zeros (sym (c .before .before .clear .kept .0)) in (
-      search needs,
-      refl,
-      refl,
-      ap (λ (l : List ℕ). set l (length z - 1) 1) e ∙ start (length z) (omega (arith, c .before .before .clear .kept .0)),
-    )
+loop-holds c = (search needs, refl, wide-start)
+
+slice-aggregate-times-root : tie.Need-slice-aggregate-times-root Inv-loop μ-loop
+slice-aggregate-times-root c = let t = c .before .before .loop in sym (wide-length (t .i) (t .wide) (t .inv .2) (omega arith))
 
 times-root-requires : tie.Need-times-root-requires Inv-loop μ-loop
-times-root-requires c κs = search needs
+times-root-requires c κs = let t = c .before .before .loop in (wide-length (t .i) (t .wide) (t .inv .2) (omega arith), wide-last (t .i) (t .wide) (t .inv .2) (omega arith))
 
 reed-solomon-multiply-requires : tie.Need-reed-solomon-multiply-requires Inv-loop μ-loop
 reed-solomon-multiply-requires c κs = search needs
@@ -52,26 +40,40 @@ loop-less c = search needs
 
 loop-again : tie.Need-loop-again Inv-loop μ-loop
 loop-again c =
-    let k = c .before .before .before .before .before .before in
-    let i = k .loop .i in
-    let inv = k .loop .inv in
-    let n = length (k .before .before .before .clear .last .0) in (
+    let t = c .before .before .before .before .before .loop in (
       omega arith,
-      c .before .before .before .times-root .kept .0 ∙ inv .1,
-      c .reed-solomon-multiply .ensures ∙ ap (λ (x : ℕ). times x 2) (inv .2) ∙ power-suc i,
-      c .before .before .before .times-root .ensures ∙ ap₂ timesRoot (inv .2) (inv .3) ∙ turn n i (omega arith),
+      c .reed-solomon-multiply .ensures ∙ ap (λ (x : ℕ). times x 2) (t .inv .1) ∙ power-suc (t .i),
+      c .before .before .times-root .ensures ∙ ap (λ (x : ℕ). timesRoot x (t .wide)) (t .inv .1) ∙ wide-turn (t .i) (t .wide) (t .inv .2) (omega arith),
     )
 
-same-length : tie.Need-same-length Inv-loop μ-loop
-same-length c =
+sub-first : tie.Need-sub-first Inv-loop μ-loop
+sub-first c = search needs
+
+sub-copy : tie.Need-sub-copy Inv-loop μ-loop
+sub-copy c = search needs
+
+part-copy-start : tie.Need-part-copy-start Inv-loop μ-loop
+part-copy-start c = search needs
+
+part-copy-end : tie.Need-part-copy-end Inv-loop μ-loop
+part-copy-end c = let t = c .before .before .loop in omega (arith, wide-length (t .i) (t .wide) (t .inv .2) (omega arith))
+
+copy-requires : tie.Need-copy-requires Inv-loop μ-loop
+copy-requires c κs =
     let k = c .before .before .before .before in
-    c .before .loop .inv .1 ∙ simp length-set (k .clear .kept .0)
+    let d = length (k .before .before .args .out .now) in
+    let e : k .loop .i ≡ d = omega arith in
+    ap length (wide-end d (k .loop .wide) (k .loop .inv .2 ∙ ap wideAt e) (omega arith)) ∙ length-divisor d
+
+same-length : tie.Need-same-length Inv-loop μ-loop
+same-length c = search needs
 
 returns : tie.Need-returns Inv-loop μ-loop
 returns c =
-    let z = c .before .before .before .before .clear .last .0 in
-    c .before .loop .inv .3 ∙ finish (length z) (c .before .loop .i) (omega arith)
-    ∙ ap divisor (c .before .before .before .before .clear .kept .0)
+    let k = c .before .before .before .before .before .before .before in
+    let d = length (k .before .before .args .out .now) in
+    let e : k .loop .i ≡ d = omega arith in
+    c .before .before .copy .ensures ∙ wide-end d (k .loop .wide) (k .loop .inv .2 ∙ ap wideAt e) (omega arith)
 
 pub reed-solomon-compute-divisor-spec : {M : Type 1} → statement M
 reed-solomon-compute-divisor-spec =
@@ -79,14 +81,18 @@ reed-solomon-compute-divisor-spec =
     (tie.spec
     Inv-loop
     μ-loop
-    clear-requires
-    sub-last
-    slice-write-out
+    array-write-wide
     loop-holds
+    slice-aggregate-times-root
     times-root-requires
     reed-solomon-multiply-requires
     add-i
     loop-less
     loop-again
+    sub-first
+    sub-copy
+    part-copy-start
+    part-copy-end
+    copy-requires
     same-length
     returns)

@@ -1,11 +1,11 @@
--- `blocks::place` meets its contract.
+-- `blocks::interleave::place` meets its contract.
 -- Assumes nothing.
 use native.Mathlib.Omega.{arith}
 use borrow.Author.Tests.{lt-ltb, le-ltb}
 use Rattle.blocks.specs.Undo.{placeIn}
 use Rattle.blocks.specs.Code.{row-small}
-use Rattle.blocks.proofs.place.Statement.{statement}
-use Rattle.blocks.proofs.place.Tie as tie
+use Rattle.blocks.proofs.interleave.place.Statement.{statement}
+use Rattle.blocks.proofs.interleave.place.Tie as tie
 
 mul-result : tie.Need-mul-result
 mul-result c = omega (arith, row-small (c .before .args .c) (c .before .args .numblocks) (omega arith) (omega arith))

@@ -1,10 +1,10 @@
--- `blocks::block_start` meets its contract.
+-- `blocks::interleave::block_start` meets its contract.
 -- Assumes nothing.
 use native.Mathlib.Omega.{arith}
 use borrow.Author.Needs.{needs}
 use Rattle.blocks.specs.Code.{product-small}
-use Rattle.blocks.proofs.block_start.Statement.{statement}
-use Rattle.blocks.proofs.block_start.Tie as tie
+use Rattle.blocks.proofs.interleave.block_start.Statement.{statement}
+use Rattle.blocks.proofs.interleave.block_start.Tie as tie
 
 mul-result : tie.Need-mul-result
 mul-result c = omega (arith, product-small (c .before .args .i) (c .before .args .shortdatlen) (omega arith) (omega arith))
