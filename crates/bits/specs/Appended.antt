@@ -139,9 +139,6 @@ module _ (buf new : List ℕ) (at p : ℕ) (all left part rest : List ℕ) (g : 
   pub progress-free : Free new p part
   progress-free = free-first new p part rest (free-then buf new at p (g .done) (g .wrote) done-room (part ++ rest) free-here)
 
-  pub progress-length : length new ≡ length buf
-  progress-length = appended-length buf new at p (g .done) (g .wrote) done-room
-
   pub progress-next : (new₂ : List ℕ) (p₂ : ℕ) → Appended new new₂ p p₂ part → Progress buf new₂ at p₂ all rest
   progress-next new₂ p₂ h =
       record {

@@ -34,16 +34,19 @@ bytes-take (suc n) (x ∷ l) h = (h .0, bytes-take n l (h .1))
 
 -- ---- bytes, unpacked and packed
 
-byte-unpack : (l : List ℕ) → Bytes l → (i : ℕ) → i < length l → byteAt (unpack l) i ≡ getD l i 0
-unfolding byteAt unpack
-byte-unpack [] h i b = absurd (not-suc-le-zero b)
-byte-unpack (x ∷ l) h zero b =
-    ap (valueFrom 0) (take-at (bits 8 x) (unpack l) 8 (length-bits 8 x)) ∙ value-bits 0 8 x ∙ omega (arith, mod-eq-of-lt (h .0))
-byte-unpack (x ∷ l) h (suc i) b =
+pub byte-bits : (l : List ℕ) (i : ℕ) → i < length l → take 8 (drop (8 * i) (unpack l)) ≡ bits 8 (getD l i 0)
+unfolding unpack
+byte-bits [] i b = absurd (not-suc-le-zero b)
+byte-bits (x ∷ l) zero b = take-at (bits 8 x) (unpack l) 8 (length-bits 8 x)
+byte-bits (x ∷ l) (suc i) b =
     let e : 8 * suc i ≡ length (bits 8 x) + 8 * i = omega (arith, length-bits 8 x) in
-    ap (λ (k : ℕ). valueFrom 0 (take 8 (drop k (bits 8 x ++ unpack l)))) e
-    ∙ ap (λ (r : List ℕ). valueFrom 0 (take 8 r)) (drop-append-add (bits 8 x) (unpack l) (8 * i))
-    ∙ byte-unpack l (h .1) i (le-of-suc-le-suc b)
+    ap (λ (k : ℕ). take 8 (drop k (bits 8 x ++ unpack l))) e
+    ∙ ap (take 8) (drop-append-add (bits 8 x) (unpack l) (8 * i))
+    ∙ byte-bits l i (le-of-suc-le-suc b)
+
+byte-unpack : (l : List ℕ) → Bytes l → (i : ℕ) → i < length l → byteAt (unpack l) i ≡ getD l i 0
+unfolding byteAt
+byte-unpack l h i b = ap (valueFrom 0) (byte-bits l i b) ∙ value-bits 0 8 (getD l i 0) ∙ omega (arith, mod-eq-of-lt (bytes-at l h i b))
 
 pub pack-unpack : (l : List ℕ) → Bytes l → pack (unpack l) ≡ l
 unfolding pack

@@ -1,4 +1,5 @@
 pub mod PackedLaws
 pub mod Fields
 pub mod Bytes
+pub mod Gathered
 pub mod Appended

@@ -3,15 +3,15 @@
 use mathlib.Core.Path.{_≡_, refl, sym, ap, ap₂, _∙_, subst}
 use mathlib.Core.Bool.{Bool}
 use Prim.Native.Nat.{ℕ, zero, suc, _+_, _-_, _*_, _/_, _%_, _^_, _<_}
-use native.Mathlib.Nat.{le-of-suc-le-suc, not-suc-le-zero, zero-lt-suc, add-zero, zero-add, suc-add, mod-lt, div-add-mod', pow-suc, mod-one, lt-of-lt-of-le}
+use native.Mathlib.Nat.{le-of-suc-le-suc, not-suc-le-zero, zero-lt-suc, add-zero, zero-add, suc-add, mod-lt, div-add-mod', pow-suc, mod-one}
 use native.Mathlib.Omega.{arith}
-use native.Mathlib.Numerals.{add-one, one-add}
+use native.Mathlib.Numerals.{one-add}
 use mathlib.Core.List.{List, [], _∷_, _++_}
-use lib.ListN.{length, getD, set, take, drop, length-append, length-drop, List·getD-append}
-use lib.Seq.{getD-append-add, set-append-left, take-suc, getD-drop, paste, length-paste-head}
+use lib.ListN.{length, getD, set, take, drop, length-append, List·getD-append}
+use lib.Seq.{getD-append-add, set-append-left, getD-drop, paste, length-paste-head}
 use lib.Bits.{bitOr}
 use lib.Dec.{T, eqb}
-use lib.Pow.{pow-mono, mod-pow-add}
+use lib.Pow.{mod-pow-add}
 use Rattle.standard.specs.Numbers.{same}
 use Rattle.standard.specs.Bits.{bits, unpack, valueFrom}
 use Rattle.laws.specs.Tests.{implies, implies-use}
@@ -91,23 +91,10 @@ put-bit bs i b h hb hx e =
 
 -- ---- reading
 
-pub bit-lt : (bs : List ℕ) (i : ℕ) → i < 8 * length bs → getD (unpack bs) i 0 < 2
-bit-lt bs i h = subst (λ (n : ℕ). n < 2) (sym (getD-unpack-at bs i h)) (mod-lt (getD bs (i / 8) 0 / 2 ^ (7 - i % 8)) (zero-lt-suc 1))
-
-pub value-snoc : (a : ℕ) (bs : List ℕ) (b : ℕ) → valueFrom a (bs ++ (b ∷ [])) ≡ valueFrom a bs * 2 + b
+pub value-append : (a : ℕ) (xs ys : List ℕ) → valueFrom a (xs ++ ys) ≡ valueFrom (valueFrom a xs) ys
 unfolding valueFrom
-value-snoc a [] b = refl
-value-snoc a (c ∷ bs) b = value-snoc (a * 2 + c) bs b
-
--- one bit more
-pub value-suc : (u : List ℕ) (at j : ℕ) → at + j < length u → valueFrom 0 (take (j + 1) (drop at u)) ≡ valueFrom 0 (take j (drop at u)) * 2 + getD u (at + j) 0
-value-suc u at j h =
-    ap (λ (k : ℕ). valueFrom 0 (take k (drop at u))) (add-one j)
-    ∙ ap (valueFrom 0) (take-suc (drop at u) j 0 (omega (arith, length-drop at u)))
-    ∙ value-snoc 0 (take j (drop at u)) (getD (drop at u) j 0) ∙ ap (λ (b : ℕ). valueFrom 0 (take j (drop at u)) * 2 + b) (getD-drop at u j 0)
-
-pub grow : (r b j : ℕ) → r < 2 ^ j → b < 2 → r * 2 + b < 2 ^ (j + 1)
-grow r b j hr hb = subst (λ (n : ℕ). r * 2 + b < n) (sym (ap (λ (k : ℕ). 2 ^ k) (add-one j) ∙ pow-suc 2 j)) (omega arith)
+value-append a [] ys = refl
+value-append a (x ∷ xs) ys = value-append (a * 2 + x) xs ys
 
 -- ---- the bits of a number, and their number
 
@@ -122,9 +109,6 @@ value-bits a (suc n) v =
     value-bits (a * 2 + v / 2 ^ n % 2) n v
     ∙ regroup a (v / 2 ^ n % 2) (2 ^ n) (v % 2 ^ n)
     ∙ ap₂ (λ (x y : ℕ). a * x + y) (sym (pow-suc 2 n)) (sym (ap (λ (k : ℕ). v % 2 ^ k) (sym (one-add n)) ∙ mod-pow-add v 1 n))
-
-pub room : (r b j : ℕ) → j < 32 → r < 2 ^ j → b < 2 → r * 2 + b < 2 ^ 32
-room r b j hj hr hb = lt-of-lt-of-le (grow r b j hr hb) (pow-mono {i = j + 1} {j = 32} (omega arith))
 
 -- past the part that has been replaced stands what stood there
 pub paste-rest : (u : List ℕ) (at : ℕ) (v : List ℕ) (j : ℕ) → at + j < length u → j < length v → getD (paste u at v j) (at + j) 0 ≡ getD u (at + j) 0

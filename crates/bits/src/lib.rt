@@ -15,7 +15,7 @@ pub fn read_bit(buf: &[u8], i: usize) -> u8
 }
 
 // Stores the bit b at i, where a 0 stands.
-pub fn put_bit(buf: &mut [u8], i: usize, b: u8)
+fn put_bit(buf: &mut [u8], i: usize, b: u8)
     requires { ⌜ (i < 8 * length (now buf)) × (b < 2) × (getD (unpack (now buf)) i 0 ≡ 0) ⌝ }
     ensures { λ r. ⌜ unpack (now (buf .exit)) ≡ set (unpack (now (buf .entry))) i b ⌝ }
 {
@@ -38,17 +38,20 @@ pub fn append_bits(buf: &mut [u8], at: usize, val: u32, len: u8) -> usize
     at + n
 }
 
-// The number that the len bits from bit at on stand for.
+// The number that the len bits from bit at on stand for: the number of the bytes that hold them,
+// without the bits after them and those before them.
 pub fn read_bits(buf: &[u8], at: usize, len: u8) -> u32
     requires { ⌜ (len ≤ 32) × (at + len ≤ 8 * length (now buf)) × (at + len < 2 ^ 64) ⌝ }
     ensures { λ r. ⌜ r ≡ field (unpack (now (buf .entry))) at len ⌝ }
 {
-    let n = len as usize;
-    let mut r: u32 = 0;
+    let k = at / 8;
+    let end = at % 8 + len as usize;
+    let n = (end + 7) / 8;
+    let mut r: u64 = 0;
     let mut j: usize = 0;
     while j < n {
-        r = r * 2 + read_bit(buf, at + j) as u32;
+        r = r * 256 + buf[k + j] as u64;
         j += 1;
     }
-    r
+    ((r >> (8 * n - end)) % (1 << len)) as u32
 }

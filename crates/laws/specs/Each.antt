@@ -36,6 +36,11 @@ module _ (f : ℕ → ℕ → ℕ) (g : List ℕ) where
   unfolding eachDone
   each-read n k h e l b = rw e (getD-tabulate (length g) _ k 0 b ∙ rw (le-ltb k n l))
 
+  -- an element that was reached
+  pub each-reached : (n k : ℕ) (h : List ℕ) → h ≡ eachDone n f g → k < n → k < length g → getD h k 0 ≡ f k (getD g k 0)
+  unfolding eachDone
+  each-reached n k h e l b = rw e (getD-tabulate (length g) _ k 0 b ∙ rw (lt-ltb k n l))
+
   pub each-next : (n w m : ℕ) (h : List ℕ) → h ≡ eachDone n f g → length h ≡ m → n < m → w ≡ f n (getD h n 0) → set h n w ≡ eachDone (n + 1) f g
   unfolding eachDone
   each-next n w m h e lm bm q = is-tabulate 0 (set h n w) (length g) _ (length-set h n w ∙ same) go

@@ -11,9 +11,9 @@ use lib.ListN.{length}
 use Rattle.standard.specs.Bits.{unpack}
 use Rattle.bits.specs.PackedLaws.{length-unpack}
 use Rattle.bits.specs.Fields.{field}
-use Rattle.segments.specs.Kinds.{base, width}
+use Rattle.segments.specs.Kinds.{size, base, width}
 use Rattle.segments.specs.Tables.{width-le}
-use Rattle.segments.specs.Runs.{part, part-pos, part-less}
+use Rattle.segments.specs.Runs.{part, size-pos, part-pos, part-less}
 use Rattle.parser.specs.declared.Groups.{Groups}
 use Rattle.parser.specs.declared.Groups.the-variants.{Next, Fault}
 use Rattle.parser.specs.Runs.{runEnd, runEnd-room, runEnd-short, runEnd-large}
@@ -81,6 +81,43 @@ run-done k buf A p (suc n) e h = absurd (omega arith)
 pub width-32 : (k m w : ℕ) → w ≡ width k m → w ≤ 32
 width-32 k m w e = omega (arith, width-le k m)
 
-pub run-less : (k n m : ℕ) → m ≡ part k n → 0 < n → n - m < n
-run-less k zero m e h = absurd (omega arith)
-run-less k (suc n) m e h = omega (arith, part-pos k n)
+-- the same of a full group
+pub part-full : (k n m : ℕ) → m ≡ size k → m ≤ n → m ≡ part k n
+part-full k n m e h = omega arith
+
+pub full-pos : (k m n : ℕ) → m ≡ size k → m ≤ n → 0 < n
+full-pos k m n e h = omega (arith, size-pos k)
+
+pub full-less : (k m n : ℕ) → m ≡ size k → m ≤ n → n - m < n
+full-less k m n e h = omega (arith, size-pos k)
+
+module _ (k : ℕ) (buf : List ℕ) (A : Groups) (p n m w : ℕ) (inv : A ≡ runEnd k (unpack buf) n p n) (em : m ≡ size k) (ew : w ≡ width k m) (le : m ≤ n) where
+  pub full-short : length buf * 8 < p + w → Fault p ≡ A
+  full-short r = run-short k buf A p n m w inv (part-full k n m em le) ew (full-pos k m n em le) r
+
+  module _ (x lim : ℕ) (ex : x ≡ field (unpack buf) p w) (el : lim ≡ base k ^ m) (r : p + w ≤ length buf * 8) where
+    pub full-large : lim ≤ x → Fault p ≡ A
+    full-large s = run-large k buf A p n m w inv (part-full k n m em le) ew (full-pos k m n em le) x lim ex el r s
+
+    pub full-next : x < lim → A ≡ runEnd k (unpack buf) (n - m) (p + w) (n - m)
+    full-next s = run-next k buf A p n m w inv (part-full k n m em le) ew (full-pos k m n em le) x lim ex el r s
+
+-- and of a group that is all that is left
+pub part-whole : (k m : ℕ) → m < size k → m ≡ part k m
+part-whole k m h = omega arith
+
+pub last-none : (k : ℕ) (buf : List ℕ) (at m : ℕ) → m < 1 → Next at ≡ runEnd k (unpack buf) m at m
+last-none k buf at m h = run-done k buf (runEnd k (unpack buf) m at m) at m refl (omega arith)
+
+module _ (k : ℕ) (buf : List ℕ) (at m w : ℕ) (ew : w ≡ width k m) (less : m < size k) (pos : 1 ≤ m) where
+  pub last-short : length buf * 8 < at + w → Fault at ≡ runEnd k (unpack buf) m at m
+  last-short r = run-short k buf (runEnd k (unpack buf) m at m) at m m w refl (part-whole k m less) ew pos r
+
+  module _ (x lim : ℕ) (ex : x ≡ field (unpack buf) at w) (el : lim ≡ base k ^ m) (r : at + w ≤ length buf * 8) where
+    pub last-large : lim ≤ x → Fault at ≡ runEnd k (unpack buf) m at m
+    last-large s = run-large k buf (runEnd k (unpack buf) m at m) at m m w refl (part-whole k m less) ew pos x lim ex el r s
+
+    pub last-next : x < lim → Next (at + w) ≡ runEnd k (unpack buf) m at m
+    last-next s =
+        run-done k buf (runEnd k (unpack buf) m at m) (at + w) (m - m)
+        (run-next k buf (runEnd k (unpack buf) m at m) at m m w refl (part-whole k m less) ew pos x lim ex el r s) (omega arith)

@@ -3,9 +3,9 @@
 use Prim.Native.Nat.{ℕ, zero, suc, _+_, _-_, _*_, _/_, _%_, _^_, _≤_, _<_}
 use mathlib.Core.Bool.{Bool, true, false}
 use mathlib.Core.Path.{_≡_, refl, sym, ap, ap₂, _∙_, subst}
-use mathlib.Core.List.{List, _++_, append-assoc}
+use mathlib.Core.List.{List, _++_, append-assoc, append-nil}
 use native.Mathlib.Omega.{arith}
-use native.Mathlib.Nat.{mod-lt, le-of-suc-le-suc, not-suc-le-zero}
+use native.Mathlib.Nat.{mod-lt, div-one, pow-zero, le-of-suc-le-suc, not-suc-le-zero}
 use native.Mathlib.Numerals.{add-one}
 use lib.Dec.{leb, ltb}
 use borrow.Author.Tests.{leb-true}
@@ -14,25 +14,42 @@ use lib.Seq.{drop-at, paste, paste-zero, paste-suc, take-add, drop-drop, take-pa
 use Rattle.standard.specs.Bits.{unpack}
 use Rattle.bits.specs.PackedLaws.{length-unpack}
 use Rattle.bits.specs.Fields.{field}
-use Rattle.segments.specs.Kinds.{base, width, charOf, groupChars, length-chars, base-pos, pow-base}
+use Rattle.segments.specs.Kinds.{size, base, width, charOf, groupChars, length-chars, base-pos}
 use Rattle.segments.specs.Runs.{part, part-pos, part-le, part-less}
 use Rattle.parser.specs.declared.Groups.{Groups}
 use Rattle.parser.specs.declared.Groups.the-variants.{Next, Fault}
 use Rattle.parser.specs.Runs.{runEnd, runChars, runEnd-room, runEnd-short, runEnd-large, run-length}
-use Rattle.parser.specs.CodeRuns.{run-fuel}
+use Rattle.parser.specs.CodeRuns.{run-fuel, part-whole}
 
 -- ---- digits
-pub power-pos : (k i p : ℕ) → p ≡ base k ^ i → 0 < p
-power-pos k i p e = subst (λ (j : ℕ). 0 < j) (sym e) (pow-base k i)
+module _ (k x i : ℕ) where
+  digit-at : (b p : ℕ) → b ≡ base k → p ≡ b ^ i → x / p % b ≡ x / base k ^ i % base k
+  digit-at b p eb ep = ap₂ (λ (m n : ℕ). x / m % n) (ep ∙ ap (λ (n : ℕ). n ^ i) eb) eb
 
-power-one : (k p : ℕ) → p ≡ base k ^ 1 → p ≡ base k
-power-one zero p e = e
-power-one (suc zero) p e = e
-power-one (suc (suc zero)) p e = e
-power-one (suc (suc (suc k))) p e = e
+  low-digit : (b : ℕ) → b ≡ base k → i ≡ 0 → x % b ≡ x / base k ^ i % base k
+  low-digit b eb ei = ap (λ (n : ℕ). n % b) (sym (div-one x)) ∙ digit-at b 1 eb (sym (pow-zero b) ∙ ap (λ (j : ℕ). b ^ j) (sym ei))
 
-pub digit-is : (k x i p b : ℕ) → p ≡ base k ^ i → b ≡ base k ^ 1 → x / p % b ≡ x / base k ^ i % base k
-digit-is k x i p b e f = ap₂ (λ (m n : ℕ). x / m % n) e (power-one k b f)
+  pub numeric-low : k ≡ 0 → i ≡ 0 → x % 10 ≡ x / base k ^ i % base k
+  numeric-low ek ei = low-digit 10 (ap base (sym ek)) ei
+
+  pub numeric-mid : k ≡ 0 → i ≡ 1 → x / 10 % 10 ≡ x / base k ^ i % base k
+  numeric-mid ek ei = digit-at 10 10 (ap base (sym ek)) (ap (λ (j : ℕ). 10 ^ j) (sym ei))
+
+  pub numeric-high : k ≡ 0 → i < size k → 1 < i → x / 100 % 10 ≡ x / base k ^ i % base k
+  numeric-high ek hi h =
+      let s : 3 ≡ size k = ap size (sym ek) in
+      let ei : 2 ≡ i = omega arith in
+      digit-at 10 100 (ap base (sym ek)) (ap (λ (j : ℕ). 10 ^ j) ei)
+
+  pub alphanumeric-low : k < 2 → 0 < k → i ≡ 0 → x % 45 ≡ x / base k ^ i % base k
+  alphanumeric-low a b ei = let ek : 1 ≡ k = omega arith in low-digit 45 (ap base ek) ei
+
+  pub alphanumeric-high : k < 2 → 0 < k → i < size k → 0 < i → x / 45 % 45 ≡ x / base k ^ i % base k
+  alphanumeric-high a b hi h =
+      let ek : 1 ≡ k = omega arith in
+      let s : 2 ≡ size k = ap size ek in
+      let ei : 1 ≡ i = omega arith in
+      digit-at 45 45 (ap base ek) (ap (λ (j : ℕ). 45 ^ j) ei)
 
 pub digit-lt : (k x i d : ℕ) → d ≡ x / base k ^ i % base k → d < base k
 digit-lt k x i d e = subst (λ (j : ℕ). j < base k) (sym e) (mod-lt (x / base k ^ i) (base-pos k))
@@ -112,6 +129,24 @@ chars-turn k u p (suc n) h =
     ap (λ (r : List ℕ). groupChars k (part k (suc n)) (field u p (width k (part k (suc n)))) ++ r)
     (chars-fuel k u n (suc n - part k (suc n)) (p + width k (part k (suc n))) (suc n - part k (suc n)) (omega (arith, part-pos k n)) (omega arith))
 
+-- a group that is the whole of what is left
+pub chars-last : (k : ℕ) (buf : List ℕ) (at m w x : ℕ) → w ≡ width k m → x ≡ field (unpack buf) at w → m < size k → 0 < m
+    → groupChars k m x ≡ runChars k (unpack buf) m at m
+unfolding runChars
+chars-last k buf at m w x ew ex h pos =
+    let u : List ℕ = unpack buf in
+    let y : ℕ = field u at (width k m) in
+    let z : 0 ≡ m - m = omega arith in
+    ap (groupChars k m) (ex ∙ ap (field u at) ew)
+    ∙ sym (append-nil (groupChars k m y))
+    ∙ ap (λ (i : ℕ). groupChars k m y ++ runChars k u i (at + width k m) i) z
+    ∙ ap (λ (i : ℕ). groupChars k i (field u at (width k i)) ++ runChars k u (m - i) (at + width k i) (m - i)) (part-whole k m h)
+    ∙ sym (chars-turn k u at m pos)
+
+pub last-written : (k : ℕ) (buf : List ℕ) (at m w x : ℕ) (o new : List ℕ) (to : ℕ) → new ≡ paste o to (groupChars k m x) m → w ≡ width k m → x ≡ field (unpack buf) at w
+    → m < size k → 0 < m → new ≡ paste o to (runChars k (unpack buf) m at m) m
+last-written k buf at m w x o new to e ew ex h pos = e ∙ ap (λ (l : List ℕ). paste o to l m) (chars-last k buf at m w x ew ex h pos)
+
 -- one more part of what is written
 pub paste-more : (o s g : List ℕ) (at j m : ℕ) → at + j ≤ length o → j ≤ length s → length g ≡ m → take m (drop j s) ≡ g
     → paste (paste o at s j) (at + j) g m ≡ paste o at s (j + m)
@@ -175,9 +210,6 @@ module _ (k : ℕ) (buf : List ℕ) (c : List ℕ) (count p n m w x : ℕ) (left
       (ap (take m) more-chars ∙ take-at (groupChars k m x) (runChars k (unpack buf) (n - m) (p + w) (n - m)) m (length-chars k m x))
       ∙ ap (paste o to c) (sym part-count)
 
-pub write-place : (k n m q to count : ℕ) → m ≡ part k n → q + n ≡ to + count → q + m + (n - m) ≡ to + count
-write-place k n m q to count e h = let l : part k n ≤ n = part-le k n in omega arith
-
 pub write-room : (k n m q to count : ℕ) (o out : List ℕ) → m ≡ part k n → q + n ≡ to + count → to + count ≤ length o → length out ≡ length o → q + m ≤ length out
 write-room k n m q to count o out e h r l = let p : part k n ≤ n = part-le k n in omega arith
 
@@ -187,8 +219,16 @@ write-start o s to count = let z : 0 ≡ count - count = omega arith in paste-ze
 pub write-all-left : (k : ℕ) (buf : List ℕ) (at count : ℕ) → drop (count - count) (runChars k (unpack buf) count at count) ≡ runChars k (unpack buf) count at count
 write-all-left k buf at count = let z : count - count ≡ 0 = omega arith in ap (λ (i : ℕ). drop i (runChars k (unpack buf) count at count)) z
 
-pub write-end : (o out s : List ℕ) (to count n : ℕ) → out ≡ paste o to s (count - n) → n ≤ 0 → out ≡ paste o to s count
-write-end o out s to count n inv h = let e : count - n ≡ count = omega arith in inv ∙ ap (paste o to s) e
+pub write-end : (k : ℕ) (buf c o out new : List ℕ) (to q count p n : ℕ) → out ≡ paste o to c (count - n) → drop (count - n) c ≡ runChars k (unpack buf) n p n
+    → new ≡ paste out q (runChars k (unpack buf) n p n) n → q + n ≡ to + count → n ≤ count → to + count ≤ length o → length c ≡ count → new ≡ paste o to c count
+write-end k buf c o out new to q count p n inv left wrote eq le room long =
+    let g : List ℕ = runChars k (unpack buf) n p n in
+    let lg : length g ≡ n = run-length k (unpack buf) n p n (omega arith) in
+    let at : q ≡ to + (count - n) = omega arith in
+    let all : count - n + n ≡ count = omega arith in
+    wrote ∙ ap₂ (λ (l : List ℕ) (i : ℕ). paste l i g n) inv at
+    ∙ paste-more o c g to (count - n) n (omega arith) (omega arith) lg (ap (take n) left ∙ take-all n g (omega arith))
+    ∙ ap (paste o to c) all
 
 pub run-count : (k : ℕ) (buf : List ℕ) (at count : ℕ) → length (runChars k (unpack buf) count at count) ≡ count
 run-count k buf at count = run-length k (unpack buf) count at count (omega arith)

@@ -15,6 +15,7 @@ pub mod CodeTail
 pub mod Counts
 pub mod Answers
 pub mod CodeWrites
+pub mod ByteRuns
 pub mod Parts
 pub mod Written
 pub mod Meaning

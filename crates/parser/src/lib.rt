@@ -1,8 +1,8 @@
 // The strict parser of data codewords: a step at a bit, and two passes over all of them, which count and write.
-pub mod eci_number; // eci_number.rt: ECI numbers
-pub mod steps; // steps.rt: one segment
-pub mod tail; // tail.rt: what follows the segments
-pub mod write; // write.rt: characters, written
+mod eci_number; // eci_number.rt: ECI numbers
+mod steps; // steps.rt: one segment
+mod tail; // tail.rt: what follows the segments
+mod write; // write.rt: characters, written
 
 use types::Version;
 ghost use mathlib.Core.Path.{_≡_};
@@ -20,14 +20,14 @@ ghost use Rattle.parser.specs.Parts.{startOf};
 ghost use Rattle.parser.specs.Written.{Room, textAfter, recordsAfter};
 
 // What the check of groups or of padding answers: the bit after them, or the bit at which the first faulty field begins.
-pub enum Groups {
+enum Groups {
     Next(usize),
     Fault(usize),
 }
 
 // What an ECI field answers: its number and the bit after it, the bit after it where it is not in its shortest form,
 // or the bit at which it begins where it can't be read.
-pub enum Eci {
+enum Eci {
     Value { assign: u32, next: usize },
     Long(usize),
     Fault(usize),
@@ -36,7 +36,7 @@ pub enum Eci {
 // What stands at a bit of the data: a segment (its kind, the bit at which its payload begins, its count, its ECI number
 // and the bit after it), an ECI number that is not in its shortest form (the bits at which it begins and ends), the end,
 // or a fault (the bit at which the faulty field begins).
-pub enum Step {
+enum Step {
     Found {
         kind: u8,
         start: usize,

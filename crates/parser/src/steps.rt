@@ -9,33 +9,78 @@ ghost use Prim.Native.Nat.{_+_, _*_, _<_, _≤_};
 ghost use lib.ListN.{length};
 ghost use Rattle.standard.specs.Bits.{unpack};
 ghost use Rattle.types.specs.Numbers.{IsVersion};
+ghost use Rattle.segments.specs.Kinds.{size};
 ghost use Rattle.parser.specs.Runs.{runEnd};
 ghost use Rattle.parser.specs.Eci.{eciAt};
 ghost use Rattle.parser.specs.Steps.{textStep, stepAt, fromEci};
 
+// The bit after the last group of a run, m characters from bit at on, fewer than a full group has, or at where it is faulty.
+fn last_end(buf: &[u8], kind: u8, at: usize, m: usize) -> Groups
+    requires { ⌜ (kind < 3) × (m < size kind) × (length (now buf) ≤ 4096) × (at ≤ 8 * length (now buf)) ⌝ }
+    ensures { λ r. ⌜ r ≡ runEnd kind (unpack (now (buf .entry))) m at m ⌝ }
+{
+    if m < 1 {
+        return Groups::Next(at);
+    }
+    let w = segments::width_of(kind, m);
+    let next = at + (w as usize);
+    if buf.len() * 8 < next {
+        return Groups::Fault(at);
+    }
+    let x = bits::read_bits(buf, at, w);
+    if segments::limit_of(kind, m) <= x {
+        return Groups::Fault(at);
+    }
+    Groups::Next(next)
+}
+
 // The bit after the groups of count characters from bit at on, or the bit at which the first faulty group begins.
-pub fn run_end(buf: &[u8], kind: u8, at: usize, count: usize) -> Groups
+fn groups_end(buf: &[u8], kind: u8, at: usize, count: usize) -> Groups
     requires { ⌜ (kind < 3) × (length (now buf) ≤ 4096) × (at ≤ 8 * length (now buf)) ⌝ }
     ensures { λ r. ⌜ r ≡ runEnd kind (unpack (now (buf .entry))) count at count ⌝ }
 {
     let total = buf.len() * 8;
+    let m = segments::size_of(kind);
+    let w = segments::width_of(kind, m);
+    let limit = segments::limit_of(kind, m);
     let mut p = at;
     let mut left = count;
-    while 0 < left {
-        let m = segments::part_of(kind, left);
-        let w = segments::width_of(kind, m);
+    while m <= left {
         let next = p + (w as usize);
         if total < next {
             return Groups::Fault(p);
         }
         let x = bits::read_bits(buf, p, w);
-        if segments::limit_of(kind, m) <= x {
+        if limit <= x {
             return Groups::Fault(p);
         }
         p = next;
         left = left - m;
     }
-    Groups::Next(p)
+    last_end(buf, kind, p, left)
+}
+
+// The bit after count bytes from bit at on, or the bit at which the first begins that the data's end cuts short.
+fn byte_end(buf: &[u8], at: usize, count: usize) -> Groups
+    requires { ⌜ (length (now buf) ≤ 4096) × (at ≤ 8 * length (now buf)) ⌝ }
+    ensures { λ r. ⌜ r ≡ runEnd 2 (unpack (now (buf .entry))) count at count ⌝ }
+{
+    let room = (buf.len() * 8 - at) / 8;
+    if room < count {
+        return Groups::Fault(at + 8 * room);
+    }
+    Groups::Next(at + 8 * count)
+}
+
+// The bit after count characters from bit at on, or the bit at which the first faulty group begins.
+pub fn run_end(buf: &[u8], kind: u8, at: usize, count: usize) -> Groups
+    requires { ⌜ (kind < 3) × (length (now buf) ≤ 4096) × (at ≤ 8 * length (now buf)) ⌝ }
+    ensures { λ r. ⌜ r ≡ runEnd kind (unpack (now (buf .entry))) count at count ⌝ }
+{
+    if kind == 2 {
+        return byte_end(buf, at, count);
+    }
+    groups_end(buf, kind, at, count)
 }
 
 // A segment of characters whose mode bits stand at bit at, and whose count has w bits.

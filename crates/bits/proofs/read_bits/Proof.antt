@@ -1,46 +1,58 @@
--- `bits::read_bits` meets its contract: the number of the bits read so far, one bit more each turn.
+-- `bits::read_bits` meets its contract: the number of the bytes so far, one byte more each turn.
 -- Assumes nothing.
-use Prim.Native.Nat.{ℕ, _+_, _-_, _*_, _^_, _≤_, _<_}
-use mathlib.Core.Path.{_≡_, refl, sym, ap, ap₂, _∙_, subst}
+use Prim.Native.Nat.{ℕ, _+_, _-_, _*_, _/_, _%_, _^_, _≤_, _<_}
+use mathlib.Core.Path.{_≡_, refl, sym, ap, _∙_, subst}
 use native.Mathlib.Omega.{arith}
-use Rattle.standard.specs.Bits.{unpack, valueFrom}
-use Rattle.bits.specs.PackedLaws.{value-suc, bit-lt, grow, room, length-unpack}
-use lib.Dec.{lit<}
-use native.Mathlib.Nat.{lt-of-le-of-lt}
 use borrow.Author.Needs.{needs}
-use lib.ListN.{take, drop}
+use lib.ListN.{getD}
+use lib.Pow.{pow-pos}
+use Rattle.standard.specs.Bits.{unpack}
+use Rattle.bits.specs.Fields.{field}
+use Rattle.bits.specs.Gathered.{gather-start, gather-next, gather-fits, gather-end, power-is, kept-lt}
 use Rattle.bits.proofs.read_bits.Statement.{statement}
 use Rattle.bits.proofs.read_bits.Tie as tie
 
 abbrev Inv-loop : tie.InvT-loop
-Inv-loop buf at len n r₀ j₀ r j = (j ≤ n) × (r < 2 ^ j) × (r ≡ valueFrom 0 (take j (drop at (unpack buf))))
+Inv-loop buf at len k end n r₀ j₀ r j = (j ≤ n) × (r ≡ field (unpack buf) (8 * k) (8 * j))
 
 abbrev μ-loop : tie.MeasureT-loop
-μ-loop buf at len n r₀ j₀ r j = n - j
+μ-loop buf at len k end n r₀ j₀ r j = n - j
+
+add-end : tie.Need-add-end Inv-loop μ-loop
+add-end c = search needs
+
+add-n : tie.Need-add-n Inv-loop μ-loop
+add-n c = search needs
 
 loop-holds : tie.Need-loop-holds Inv-loop μ-loop
-unfolding valueFrom
-loop-holds c = (search needs, search needs, refl)
+loop-holds c = (search needs, gather-start (c .args .buf .now) (c .args .at / 8))
 
 mul-r : tie.Need-mul-r Inv-loop μ-loop
-mul-r c = record { fits = lt-of-le-of-lt (omega arith) (room (c .before .loop .r) 0 (c .before .loop .j) (omega arith) (c .before .loop .inv .1) (lit< tt)) }
-
-add-read-bit : tie.Need-add-read-bit Inv-loop μ-loop
-add-read-bit c = search needs
-
-read-bit-requires : tie.Need-read-bit-requires Inv-loop μ-loop
-read-bit-requires c κs = search needs
-
-cast-r : tie.Need-cast-r Inv-loop μ-loop
-cast-r c = search needs
+mul-r c =
+    let a = c .before .before .args in
+    let l = c .before .loop in
+    let f : l .r * 256 + 0 < 2 ^ 64 = gather-fits (a .buf .now) (a .at / 8) (l .j) (l .r) 0 (l .inv .1) (omega arith) (omega arith) (omega arith) in
+    record { fits = omega arith }
 
 add-r : tie.Need-add-r Inv-loop μ-loop
-add-r c =
-    let k = c .before .before in
-    let a = k .before .before .args in
+add-r c = search needs
+
+shared-slice-read-r : tie.Need-shared-slice-read-r Inv-loop μ-loop
+shared-slice-read-r c = search needs
+
+byte-lt : (c : tie.After-shared-slice-known Inv-loop μ-loop)
+    → getD (c .before .before .before .args .buf .now) (c .before .before .before .args .at / 8 + c .before .before .loop .j) 0 < 256
+byte-lt c = c .shared-slice-known .given (c .before .before .before .args .at / 8 + c .before .before .loop .j) .fits
+
+cast-r : tie.Need-cast-r Inv-loop μ-loop
+cast-r c = let b = byte-lt c in record { fits = omega arith }
+
+add-r-2 : tie.Need-add-r-2 Inv-loop μ-loop
+add-r-2 c =
+    let a = c .before .before .before .args in
+    let l = c .before .before .loop in
     record {
-      fits = room (k .loop .r) (c .read-bit .result) (k .loop .j) (omega arith) (k .loop .inv .1)
-          (subst (λ (b : ℕ). b < 2) (sym (c .read-bit .ensures)) (bit-lt (a .buf .now) (a .at + k .loop .j) (omega arith)));
+      fits = gather-fits (a .buf .now) (a .at / 8) (l .j) (l .r) (getD (a .buf .now) (a .at / 8 + l .j) 0) (l .inv .1) (omega arith) (omega arith) (byte-lt c);
     }
 
 add-j : tie.Need-add-j Inv-loop μ-loop
@@ -51,21 +63,46 @@ loop-less c = search needs
 
 loop-again : tie.Need-loop-again Inv-loop μ-loop
 loop-again c =
-    let k = c .before .before in
-    let a = k .before .before .args in
-    let j = k .loop .j in
-    let b : c .read-bit .result < 2 = subst (λ (b : ℕ). b < 2) (sym (c .read-bit .ensures)) (bit-lt (a .buf .now) (a .at + j) (omega arith)) in (
-      omega arith,
-      grow (k .loop .r) (c .read-bit .result) j (k .loop .inv .1) b,
-      ap₂ (λ (x y : ℕ). x * 2 + y) (k .loop .inv .2) (c .read-bit .ensures)
-          ∙ sym (value-suc (unpack (a .buf .now)) (a .at) j (omega (arith, length-unpack (a .buf .now)))),
-    )
+    let a = c .before .before .before .args in
+    let l = c .before .before .loop in
+    (search needs, gather-next (a .buf .now) (a .at / 8) (l .j) (l .r) (getD (a .buf .now) (a .at / 8 + l .j) 0) (l .inv .1) refl (byte-lt c) (omega arith))
+
+mul-result : tie.Need-mul-result Inv-loop μ-loop
+mul-result c = search needs
+
+sub-result : tie.Need-sub-result Inv-loop μ-loop
+sub-result c = search needs
+
+shr-result : tie.Need-shr-result Inv-loop μ-loop
+shr-result c = search needs
+
+shl-result : tie.Need-shl-result Inv-loop μ-loop
+shl-result c = search needs
+
+rem-result : tie.Need-rem-result Inv-loop μ-loop
+rem-result c =
+    let a = c .before .before .args in
+    subst (λ (n : ℕ). 0 < n) (sym (power-is (a .len) (omega arith))) (pow-pos (a .len))
+
+cast-result : tie.Need-cast-result Inv-loop μ-loop
+cast-result c =
+    let a = c .before .before .args in
+    let d = 8 * ((a .at % 8 + a .len + 7) / 8) - (a .at % 8 + a .len) in
+    record {
+      fits = subst (λ (m : ℕ). c .before .loop .r / 2 ^ d % m < 2 ^ 32) (sym (power-is (a .len) (omega arith)))
+          (kept-lt (c .before .loop .r / 2 ^ d) (a .len) (omega arith));
+    }
 
 returns : tie.Need-returns Inv-loop μ-loop
 returns c =
-    let a = c .before .before .before .args in
-    let e : c .before .loop .j ≡ a .len = omega arith in
-    c .before .loop .inv .2 ∙ ap (λ (n : ℕ). valueFrom 0 (take n (drop (a .at) (unpack (a .buf .now))))) e
+    let a = c .before .before .args in
+    let l = c .before .loop in
+    let end = a .at % 8 + a .len in
+    let n = (end + 7) / 8 in
+    let e : l .j ≡ n = omega arith in
+    ap (λ (m : ℕ). l .r / 2 ^ (8 * n - end) % m) (power-is (a .len) (omega arith))
+    ∙ gather-end (a .buf .now) (a .at) (a .len) (a .at / 8) end n (l .r)
+    (l .inv .1 ∙ ap (λ (i : ℕ). field (unpack (a .buf .now)) (8 * (a .at / 8)) (8 * i)) e) refl refl refl (omega arith)
 
 pub read-bits-spec : {M : Type 1} → statement M
 read-bits-spec =
@@ -73,13 +110,21 @@ read-bits-spec =
     (tie.spec
     Inv-loop
     μ-loop
+    add-end
+    add-n
     loop-holds
     mul-r
-    add-read-bit
-    read-bit-requires
-    cast-r
     add-r
+    shared-slice-read-r
+    cast-r
+    add-r-2
     add-j
     loop-less
     loop-again
+    mul-result
+    sub-result
+    shr-result
+    shl-result
+    rem-result
+    cast-result
     returns)
