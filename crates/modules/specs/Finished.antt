@@ -56,7 +56,7 @@ version-lt : (v x y : ℕ) → versionColour v x y < 2
 unfolding versionColour
 version-lt v x y = mod-lt (versionWord v / 2 ^ (3 * min x y + (max x y + 11 - side v))) (omega arith)
 
-colour-lt : (v word x y : ℕ) → functionColour v word x y < 2
+pub colour-lt : (v word x y : ℕ) → functionColour v word x y < 2
 unfolding functionColour
 colour-lt v word x y =
     cond-lt (onVersion v x y) (versionColour v x y) _ (version-lt v x y)

@@ -4,11 +4,14 @@ pub mod MaskRows
 pub mod Kept
 pub mod Storing
 pub mod Way
+pub mod Zeroed
 pub mod Trip
 pub mod Work
 pub mod Finished
 pub mod Back
-pub mod Again
+pub mod Injective
+pub mod All
+pub mod Same
 pub mod Question
 pub mod FormatBack
 pub mod Reading

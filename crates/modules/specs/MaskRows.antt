@@ -1,4 +1,4 @@
--- Twelve rows of a mask, and a grid over which they are laid again and again: each mask repeats after twelve rows.
+-- Twelve rows of a mask, and a grid over which they are laid again and again: each mask repeats after twelve rows, and after six columns.
 -- Assumes nothing.
 use Prim.Native.Nat.{ℕ, zero, suc, min, _+_, _-_, _*_, _/_, _%_, _≤_, _<_}
 use mathlib.Core.Bool.{Bool, true, false, cond}
@@ -14,7 +14,7 @@ use borrow.Author.Tests.{le-ltb}
 use Rattle.standard.specs.Numbers.{one, tabulate}
 use Rattle.standard.specs.Masks.{maskNumber, inverts}
 use Rattle.laws.specs.Lists.{getD-tabulate, length-tabulate, is-tabulate}
-use Rattle.laws.specs.Each.{each, eachDone, each-part}
+use Rattle.laws.specs.Each.{each, eachDone, each-length, each-reached, each-part}
 use Rattle.laws.specs.Grid.{Square, paint}
 use Rattle.modules.specs.Mask.{flip, masked}
 
@@ -23,26 +23,26 @@ abbrev pub inRow : ℕ → ℕ → ℕ → ℕ → ℕ
 inRow m size k v = one (inverts m (k % size) (k / size))
 
 -- a module under a place of the rows: a data module is inverted by 1, a function module never is
-abbrev pub turned : ℕ → ℕ → ℕ
-turned i v = cond (ltb v 2) (bitXor v i) v
+abbrev pub inverted : ℕ → ℕ → ℕ
+inverted i v = cond (ltb v 2) (bitXor v i) v
 
-turned-flip : (b : Bool) (v : ℕ) → turned (one b) v ≡ flip b v
-turned-flip b zero = go b
+inverted-flip : (b : Bool) (v : ℕ) → inverted (one b) v ≡ flip b v
+inverted-flip b zero = go b
   where
-    go : (b : Bool) → turned (one b) 0 ≡ flip b 0
+    go : (b : Bool) → inverted (one b) 0 ≡ flip b 0
     go true = refl
     go false = refl
-turned-flip b (suc zero) = go b
+inverted-flip b (suc zero) = go b
   where
-    go : (b : Bool) → turned (one b) 1 ≡ flip b 1
+    go : (b : Bool) → inverted (one b) 1 ≡ flip b 1
     go true = refl
     go false = refl
-turned-flip b (suc (suc v)) = go b
+inverted-flip b (suc (suc v)) = go b
   where
     far : ltb (suc (suc v)) 2 ≡ false
     far = le-ltb (suc (suc v)) 2 (omega arith)
 
-    go : (b : Bool) → turned (one b) (suc (suc v)) ≡ flip b (suc (suc v))
+    go : (b : Bool) → inverted (one b) (suc (suc v)) ≡ flip b (suc (suc v))
     go true = simp far
     go false = simp far
 
@@ -76,6 +76,43 @@ pub inverts-twelve : (m x y : ℕ) → inverts m x (y % 12) ≡ inverts m x y
 unfolding inverts
 inverts-twelve m x y =
     ap (λ (n : ℕ). eqb n 0) (sym (repeats m x (y % 12) (y / 12)) ∙ ap (maskNumber m x) (div-add-mod' y 12))
+
+-- ---- and after six columns
+
+across-two : (x y : ℕ) → (6 + x) * y % 2 ≡ x * y % 2
+across-two x y = omega (arith, add-mul 6 x y)
+
+across-three : (x y : ℕ) → (6 + x) * y % 3 ≡ x * y % 3
+across-three x y = omega (arith, add-mul 6 x y)
+
+across-sum : (x y : ℕ) → (6 + x + y) % 2 ≡ (x + y) % 2
+across-sum x y = omega arith
+
+across : (m x y : ℕ) → maskNumber m (6 + x) y ≡ maskNumber m x y
+unfolding maskNumber
+across zero x y = across-sum x y
+across (suc zero) x y = refl
+across (suc (suc zero)) x y = omega arith
+across (suc (suc (suc zero))) x y = omega arith
+across (suc (suc (suc (suc zero)))) x y = omega arith
+across (suc (suc (suc (suc (suc zero))))) x y = ap₂ _+_ (across-two x y) (across-three x y)
+across (suc (suc (suc (suc (suc (suc zero)))))) x y = ap₂ (λ (a b : ℕ). (a + b) % 2) (across-two x y) (across-three x y)
+across (suc (suc (suc (suc (suc (suc (suc m))))))) x y = ap₂ (λ (a b : ℕ). (a + b) % 2) (across-sum x y) (across-three x y)
+
+-- a column is as the one six before it
+pub inverts-across : (m x y : ℕ) → 6 ≤ x → inverts m (x - 6) y ≡ inverts m x y
+unfolding inverts
+inverts-across m x y h =
+    let e : 6 + (x - 6) ≡ x = omega arith in
+    ap (λ (n : ℕ). eqb n 0) (sym (across m (x - 6) y) ∙ ap (λ (n : ℕ). maskNumber m n y) e)
+
+-- a place from column 6 on, by the one six before it
+module _ (m x y k : ℕ) (h : List ℕ) (far : 6 ≤ x → (6 ≤ k) × (getD h (k - 6) 0 ≡ one (inverts m (x - 6) y))) (is : 6 ≤ x) where
+  pub before-inside : 6 ≤ k
+  before-inside = far is .0
+
+  pub before-same : (w : ℕ) → w ≡ getD h (k - 6) 0 → w ≡ one (inverts m x y)
+  before-same w e = e ∙ far is .1 ∙ ap one (inverts-across m x y is)
 
 -- ---- the rows are worked out place by place, x and y running along
 
@@ -111,24 +148,35 @@ module _ (size : ℕ) where
   in-row m x y k v w e a =
       e ∙ sym (ap₂ (λ (p q : ℕ). one (inverts m p q)) (ap (λ (n : ℕ). n % size) (sym (a .place)) ∙ digits-mod y (a .column)) (ap (λ (n : ℕ). n / size) (sym (a .place)) ∙ digits-div y (a .column)))
 
+  -- the place six before, in the same row
+  pub in-row-before : (m x y k n : ℕ) (g h : List ℕ) → h ≡ eachDone k (inRow m size) g → At size x y k → length h ≡ n → k < n → 6 ≤ x
+      → (6 ≤ k) × (getD h (k - 6) 0 ≡ one (inverts m (x - 6) y))
+  in-row-before m x y k n g h e a long less far =
+      let same : length h ≡ length g = ap length e ∙ each-length (inRow m size) g k in
+      let before : At size (x - 6) y (k - 6) = record { place = omega (arith, a .place); column = omega (arith, a .column) } in (
+        omega (arith, a .place),
+        each-reached (inRow m size) g k (k - 6) h e (omega (arith, a .place)) (omega arith)
+            ∙ sym (in-row m (x - 6) y (k - 6) (getD g (k - 6) 0) (one (inverts m (x - 6) y)) refl before),
+      )
+
 -- ---- the rows are laid over the grid
 
 -- place k of the grid lies under place k % n of n rows' places
 abbrev pub under : List ℕ → ℕ → ℕ → ℕ
-under r k v = turned (getD r (k % length r) 0) v
+under r k v = inverted (getD r (k % length r) 0) v
 
 pub bands-start : (r : List ℕ) → 0 < length r → 0 % length r ≡ 0
 bands-start r h = mod-eq-of-lt h
 
 pub bands-next : (r g h i : List ℕ) (at n : ℕ) → h ≡ eachDone at (under r) g → length h ≡ length g → at < length h → (at < length h → at % length r ≡ 0)
-    → n ≡ min (length h - at) (length r) → i ≡ each (λ k v. turned (getD r k 0) v) (take (at + n - at) (drop at h))
+    → n ≡ min (length h - at) (length r) → i ≡ each (λ k v. inverted (getD r k 0) v) (take (at + n - at) (drop at h))
     → take at h ++ (i ++ drop (at + n - at) (drop at h)) ≡ eachDone (at + n) (under r) g
 bands-next r g h i at n e long less turn is-n is =
     let d : at + n - at ≡ n = omega arith in
     let whole : at % length r ≡ 0 = turn less in
     rw d
-    (each-part (under r) (λ k v. turned (getD r k 0) v) g h i at n e (omega arith)
-    (λ j v l. ap (λ (k : ℕ). turned (getD r k 0) v) (place j (omega arith))) (rw d at is))
+    (each-part (under r) (λ k v. inverted (getD r k 0) v) g h i at n e (omega arith)
+    (λ j v l. ap (λ (k : ℕ). inverted (getD r k 0) v) (place j (omega arith))) (rw d at is))
   where
     place : (j : ℕ) → j < length r → j ≡ (at + j) % length r
     place j l =
@@ -149,7 +197,7 @@ pub rows-mask : (m size : ℕ) (r r₀ g h : List ℕ) → r ≡ each (inRow m s
 unfolding each paint
 rows-mask m size r r₀ g h er lr sq pos e =
     e ∙ is-tabulate 0 (tabulate (length g) (λ k. under r k (getD g k 0))) (length g) _ (length-tabulate (length g) _)
-    (λ k b. getD-tabulate (length g) _ k 0 b ∙ ap (λ (v : ℕ). turned v (getD g k 0)) (row k) ∙ turned-flip (inverts m (k % size) (k / size)) (getD g k 0))
+    (λ k b. getD-tabulate (length g) _ k 0 b ∙ ap (λ (v : ℕ). inverted v (getD g k 0)) (row k) ∙ inverted-flip (inverts m (k % size) (k / size)) (getD g k 0))
   where
     long : length r ≡ 12 * size
     long = ap length er ∙ length-tabulate (length r₀) _ ∙ lr

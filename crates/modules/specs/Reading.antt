@@ -1,9 +1,9 @@
 -- Reading undoes drawing: from a label's grid its level, mask and codewords are read, so no grid belongs to two of them.
 -- Assumes nothing.
-use Prim.Native.Nat.{ℕ, _≤_, _<_}
-use mathlib.Core.List.{List}
+use Prim.Native.Nat.{ℕ, _+_, _≤_, _<_}
+use mathlib.Core.List.{List, [], _∷_, _++_}
 use mathlib.Core.Path.{_≡_, sym, ap, _∙_}
-use lib.ListN.{length, getD}
+use lib.ListN.{length, getD, replicate}
 use Rattle.standard.specs.Sizes.{side, rawCodewords}
 use Rattle.standard.specs.Grid.{content, grid}
 use Rattle.modules.specs.FormatBack.{readLevel, readMask, read-level, read-mask}
@@ -18,15 +18,15 @@ pub record Drawable (v l m : ℕ) (ws : List ℕ) : Type 0 where
   pub full : length ws ≡ rawCodewords v
   pub bytes : (b : ℕ) → getD ws b 0 < 256
 
--- THE LAW: what is read from the drawn grid is what was drawn
-pub read-drawn : (v l m : ℕ) (ws out : List ℕ) → Drawable v l m ws → length out ≡ length ws
+-- THE LAW: what is read from the drawn grid is what was drawn, and remainder modules that are 0
+pub read-drawn : (v l m : ℕ) (ws : List ℕ) → Drawable v l m ws
     → (readLevel (side v) (grid v l m (content v ws)) ≡ l)
     × (readMask (side v) (grid v l m (content v ws)) ≡ m)
-    × (readWords v l m (grid v l m (content v ws)) out ≡ ws)
-read-drawn v l m ws out d as-long = (
+    × (readWords v l m (grid v l m (content v ws)) (replicate (rawCodewords v + 1) 0) ≡ ws ++ (0 ∷ []))
+read-drawn v l m ws d = (
   read-level v l m (content v ws) (d .least) (d .most) (d .level) (d .mask),
   read-mask v l m (content v ws) (d .least) (d .most) (d .level) (d .mask),
-  read-label v l m ws out (d .least) (d .most) (d .full) (d .bytes) as-long,
+  read-label v l m ws (d .least) (d .most) (d .full) (d .bytes),
 )
 
 -- no grid belongs to two

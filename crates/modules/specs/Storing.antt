@@ -1,13 +1,13 @@
 -- Bits that are stored at places one after the other: laws of `store`.
 -- Assumes nothing.
-use Prim.Native.Nat.{ℕ, suc, _≤_, _<_}
+use Prim.Native.Nat.{ℕ, zero, suc, _≤_, _<_}
 use mathlib.Core.Bool.{Bool, true, false, true≢false}
 use mathlib.Core.Path.{_≡_, refl, sym, ap, _∙_}
 use mathlib.Core.List.{List, [], _∷_, _++_}
 use native.Mathlib.Decide.{ℕ-discrete, decLt}
 use native.Mathlib.Omega.{arith}
-use lib.ListN.{length, getD, set, length-set}
-use lib.Seq.{getD-set-same, getD-set-other, set-out}
+use lib.ListN.{length, getD, set, drop, replicate, length-set}
+use lib.Seq.{getD-set-same, getD-set-other, set-getD, set-out}
 use lib.Dec.{ltb}
 use borrow.Author.Tests.{lt-ltb, ltb-true}
 use Rattle.standard.specs.Numbers.{consIf, keep}
@@ -85,3 +85,30 @@ store-kind xs bs g i h = go (ltb (getD g i 0) 2) refl
     go : (t : Bool) → ltb (getD g i 0) 2 ≡ t → ltb (getD (store (keep (λ k. ltb (getD g k 0) 2) xs) bs g) i 0) 2 ≡ ltb (getD g i 0) 2
     go false e = ap (λ (n : ℕ). ltb n 2) (store-off (λ k. ltb (getD g k 0) 2) xs bs g i e)
     go true e = lt-ltb _ 2 (store-small (keep (λ k. ltb (getD g k 0) 2) xs) bs g i h (ltb-true (getD g i 0) 2 e)) ∙ sym e
+
+-- ---- more bits
+
+pub store-append : (ps bs cs g : List ℕ) → store ps (bs ++ cs) g ≡ store (drop (length bs) ps) cs (store ps bs g)
+unfolding store
+store-append [] [] cs g = refl
+store-append [] (b ∷ bs) cs g = refl
+store-append (p ∷ ps) [] cs g = refl
+store-append (p ∷ ps) (b ∷ bs) cs g = store-append ps bs cs (set g p b)
+
+-- a place that takes no bit
+pub store-other : (ps bs g : List ℕ) (i : ℕ) → ((j : ℕ) → j < length ps → j < length bs → getD ps j 0 ≡ i → ⊥) → getD (store ps bs g) i 0 ≡ getD g i 0
+unfolding store
+store-other [] bs g i h = refl
+store-other (p ∷ ps) [] g i h = refl
+store-other (p ∷ ps) (b ∷ bs) g i h =
+    store-other ps bs (set g p b) i (λ j k l e. h (suc j) (omega arith) (omega arith) e)
+    ∙ getD-set-other g p i b 0 (λ e. h 0 (omega arith) (omega arith) (sym e))
+
+-- light bits at light places
+pub store-light : (ps : List ℕ) (n : ℕ) (g : List ℕ) → ((j : ℕ) → j < length ps → getD g (getD ps j 0) 0 ≡ 0) → store ps (replicate n 0) g ≡ g
+unfolding store
+store-light [] n g h = refl
+store-light (p ∷ ps) zero g h = refl
+store-light (p ∷ ps) (suc n) g h =
+    let e : set g p 0 ≡ g = ap (set g p) (sym (h 0 (omega arith))) ∙ set-getD g p 0 in
+    rw e (store-light ps n g (λ j l. h (suc j) (omega arith)))

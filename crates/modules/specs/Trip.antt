@@ -1,21 +1,23 @@
 -- What is laid along the zigzag is read back: the path meets no cell twice, and bits that are shifted in make the bytes again.
 -- Assumes nothing.
 use mathlib.Core.Path.{_≡_, refl, sym, ap, _∙_, subst}
-use mathlib.Core.Logic.{_≢_, _⊎_, inl, inr, ⊎-elim}
+use mathlib.Core.Logic.{_≢_, ⊎-elim}
 use mathlib.Core.List.{List}
 use mathlib.Core.Bool.{Bool, true, false, cond, _&&_}
 use Prim.Native.Nat.{ℕ, zero, suc, _+_, _-_, _*_, _/_, _%_, _^_, _≤_, _<_}
 use native.Mathlib.Omega.{arith}
-use native.Mathlib.Nat.{zero-add, not-suc-le-zero, eq-or-lt-of-le, le-of-suc-le-suc}
-use lib.ListN.{length, getD, set, length-set}
+use native.Mathlib.Nat.{not-suc-le-zero, eq-or-lt-of-le, le-of-suc-le-suc, mod-eq-of-lt, zero-div}
+use lib.ListN.{length, getD, set, replicate, length-set, length-replicate}
 use lib.Seq.{getD-set-same, getD-set-other, ext-getD}
 use lib.Arith.{digits-div, digits-mod}
 use lib.Pow.{mod-mod-pow, mod-pow-add, shr-shr}
 use lib.Dec.{ltb}
 use borrow.Author.Tests.{ltb-true, ltb-false}
 use Rattle.standard.specs.Path.{cell}
+use Rattle.laws.specs.Tests.{split}
 use Rattle.counts.specs.Zigzag.{cell-lt, cell-injective}
-use Rattle.modules.specs.Zigzag.{Laid, Laid.laid, layAt, readAt, walk, listOf, pathLength, path-count, bitOf, drawn, collected, put, skip-end, skip-function, read-bit, read-end, read-function}
+use Rattle.modules.specs.Zigzag.{Laid, Laid.laid, layAt, readAt, walk, walk-suc, listOf, usedOf, pathLength, path-count, bitOf, drawn, collected, put, skip-end, skip-function, read-bit, read-end, read-function}
+use Rattle.modules.specs.Zeroed.{Low, reading, reading-suc, reading-low}
 
 -- ---- bits that are shifted in
 
@@ -41,7 +43,7 @@ module _ (cs : List ℕ) (bytes : (b : ℕ) → getD cs b 0 < 256) where
 
   good-next : (o : List ℕ) (i : ℕ) → Good cs o i → i < length cs * 8 → Good cs (set o (i / 8) (getD o (i / 8) 0 % 128 * 2 + bitOf cs i)) (i + 1)
   unfolding bitOf
-  good-next o i g h = ⊎-elim within last (split (i % 8) (omega arith))
+  good-next o i g h = split (i % 8) 7 within (λ l. last (omega arith))
     where
       O : ℕ
       O = getD o (i / 8) 0
@@ -51,9 +53,6 @@ module _ (cs : List ℕ) (bytes : (b : ℕ) → getD cs b 0 < 256) where
 
       W : ℕ
       W = O % 128 * 2 + C / 2 ^ (7 - i % 8) % 2
-
-      split : (r : ℕ) → r < 8 → (r < 7) ⊎ (r ≡ 7)
-      split r l = ⊎-elim (λ e. inr (omega arith)) (λ e. inl (omega arith)) (eq-or-lt-of-le l)
 
       at : getD (set o (i / 8) W) (i / 8) 0 ≡ W
       at = getD-set-same o (i / 8) W 0 (omega (arith, g .size))
@@ -90,9 +89,6 @@ module _ (cs : List ℕ) (bytes : (b : ℕ) → getD cs b 0 < 256) where
           }
 
 -- ---- what is laid is read back
-
-unfoldable pub usedOf : Laid → ℕ
-usedOf (laid g i) = i
 
 bit-lt : (cs : List ℕ) (i : ℕ) → bitOf cs i < 2
 unfolding bitOf
@@ -152,10 +148,6 @@ step-all cs bytes G at (laid h i) (laid o k) inside e good same = rw e (step cs 
 unfoldable pub bitsLaid : ℕ → List ℕ → List ℕ → ℕ
 bitsLaid side cs g = usedOf (walk side (layAt cs) 0 (pathLength side) (laid g 0))
 
-walk-suc : (side : ℕ) (f : ℕ → Laid → Laid) (n : ℕ) (s : Laid) → walk side f 0 (suc n) s ≡ f (cell side n) (walk side f 0 n s)
-unfolding walk
-walk-suc side f n s = rw zero-add
-
 module _ (half side : ℕ) (odd : side ≡ 2 * half + 1) (big : 4 ≤ half) (cs g : List ℕ) (size : length g ≡ side * side) where
   below : (n : ℕ) → n < pathLength side → n < side * (side - 1)
   below n l = omega (arith, path-count half side odd)
@@ -182,30 +174,39 @@ module _ (half side : ℕ) (odd : side ≡ 2 * half + 1) (big : 4 ≤ half) (cs 
       (lay-other cs (S m) (cell side m) (cell side k) (λ e. let q = cell-injective half side k m odd big (below k (omega arith)) (below m (omega arith)) e in omega arith) ∙ keep k m d (omega arith)))
       (eq-or-lt-of-le (le-of-suc-le-suc h))
 
-  module _ (bytes : (b : ℕ) → getD cs b 0 < 256) (o : List ℕ) (as-long : length o ≡ length cs) where
+  module _ (bytes : (b : ℕ) → getD cs b 0 < 256) where
     R : ℕ → Laid
-    R n = walk side (readAt (listOf (S (pathLength side)))) 0 n (laid o 0)
-
-    R-suc : (n : ℕ) → R (suc n) ≡ readAt (listOf (S (pathLength side))) (cell side n) (R n)
-    unfolding R
-    R-suc n = walk-suc side (readAt (listOf (S (pathLength side)))) n (laid o 0)
+    R n = reading side (length cs) (listOf (S (pathLength side))) n
 
     start : (usedOf (R 0) ≡ usedOf (S 0)) × Good cs (listOf (R 0)) (usedOf (S 0))
-    unfolding R S walk usedOf
-    start = (refl, good-start cs bytes o as-long)
+    unfolding R S reading walk usedOf
+    start = (refl, good-start cs bytes (replicate (length cs) 0) (length-replicate (length cs) 0))
 
     both-steps : (n : ℕ) → n ≤ pathLength side → (usedOf (R n) ≡ usedOf (S n)) × Good cs (listOf (R n)) (usedOf (S n))
+    unfolding R
     both-steps zero l = start
     both-steps (suc n) l =
         let ih = both-steps n (omega arith) in
-        rw (S-suc n, R-suc n)
+        rw (S-suc n, reading-suc side (length cs) (listOf (S (pathLength side))) n)
         (step-all cs bytes (listOf (S (pathLength side))) (cell side n) (S n) (R n) (omega (arith, S-length n, cell-lt half side n odd big (below n l))) (ih .0) (ih .1)
         (keep n (pathLength side) l (omega arith) ∙ rw (S-suc n)))
 
-    -- WHAT IS LAID IS READ BACK, if the path had a cell for each bit
-    pub read-back : bitsLaid side cs g ≡ length cs * 8 → collected side (drawn side cs g) o ≡ cs
-    unfolding R S usedOf bitsLaid
-    read-back all =
+    -- a byte that found not all its cells is 0
+    late : (o : List ℕ) (i b : ℕ) → Low o i → Good cs o i → i / 8 ≤ b → getD cs b 0 ≡ 0 → getD o b 0 ≡ 0
+    late o i b low good h z = ⊎-elim here (λ l. low .rest b l) (eq-or-lt-of-le h)
+      where
+        here : i / 8 ≡ b → getD o b 0 ≡ 0
+        here e =
+            let z' : getD cs (i / 8) 0 ≡ 0 = ap (λ (n : ℕ). getD cs n 0) e ∙ z in
+            ap (λ (n : ℕ). getD o n 0) (sym e) ∙ sym (mod-eq-of-lt (low .part)) ∙ good .part ∙ ap (λ (n : ℕ). n / 2 ^ (8 - i % 8)) z' ∙ zero-div (2 ^ (8 - i % 8))
+
+    -- WHAT IS LAID IS READ BACK into zeroed bytes, if bytes for which the path has not enough cells are 0
+    pub read-back : ((b : ℕ) → bitsLaid side cs g / 8 ≤ b → getD cs b 0 ≡ 0) → collected side (drawn side cs g) (replicate (length cs) 0) ≡ cs
+    unfolding R S reading bitsLaid
+    read-back zeros =
         let end = both-steps (pathLength side) (omega arith) in
+        let low = reading-low side (length cs) (listOf (S (pathLength side))) (pathLength side) in
         ext-getD 0 (listOf (R (pathLength side))) cs (end .1 .size)
-        (λ b h. end .1 .done b (rw all (omega (arith, end .1 .size))))
+        (λ b h.
+        split b (bitsLaid side cs g / 8) (end .1 .done b)
+        (λ l. late (listOf (R (pathLength side))) (bitsLaid side cs g) b (subst (Low (listOf (R (pathLength side)))) (end .0) low) (end .1) l (zeros b l) ∙ sym (zeros b l)))

@@ -1,6 +1,6 @@
 -- The walk along the zigzag is the drawing along the path of the definition.
 -- Assumes nothing.
-use Prim.Native.Nat.{ℕ, zero, suc, _+_, _-_, _*_, _<_, min}
+use Prim.Native.Nat.{ℕ, zero, suc, _+_, _-_, _*_, _≤_, _<_, min}
 use mathlib.Core.Bool.{Bool, true, false, cond}
 use mathlib.Core.Path.{_≡_, refl, sym, ap, ap₂, _∙_}
 use mathlib.Core.List.{List, [], _∷_, _++_, append-nil}
@@ -15,6 +15,7 @@ use Rattle.standard.specs.Sizes.{side}
 use Rattle.standard.specs.Bits.{unpack}
 use Rattle.standard.specs.Path.{cell, free, path}
 use Rattle.standard.specs.Grid.{store}
+use Rattle.laws.specs.Lists.{from-append}
 use Rattle.counts.specs.Zigzag.{cell-lt}
 use Rattle.modules.specs.Kept.{from-snoc, keep-append, keep-same, length-unpack, bit-unpack, unpack-bits}
 use Rattle.modules.specs.Storing.{store-snoc-in, store-snoc-out, store-kind}
@@ -32,12 +33,22 @@ bit-of cs i h = sym (bit-unpack cs i h)
 pub places : ℕ → List ℕ → ℕ → List ℕ
 places s g n = keep (test g) (from 0 n (cell s))
 
-places-suc : (s : ℕ) (g : List ℕ) (n : ℕ) → places s g (suc n) ≡ places s g n ++ consIf (test g (cell s n)) (cell s n) []
+pub places-suc : (s : ℕ) (g : List ℕ) (n : ℕ) → places s g (suc n) ≡ places s g n ++ consIf (test g (cell s n)) (cell s n) []
 unfolding places
 places-suc s g n =
     ap (keep (test g)) (from-snoc 0 n (cell s))
     ∙ keep-append (test g) (from 0 n (cell s)) (cell s (0 + n) ∷ [])
     ∙ ap (λ (m : ℕ). keep (test g) (from 0 n (cell s)) ++ consIf (test g (cell s m)) (cell s m) []) (zero-add n)
+
+pub places-more : (s : ℕ) (g : List ℕ) (m n : ℕ) → length (places s g m) ≤ length (places s g (m + n))
+unfolding places
+places-more s g m n =
+    omega (
+      arith,
+      ap (λ (l : List ℕ). length (keep (test g) l)) (from-append 0 m n (cell s)),
+      ap length (keep-append (test g) (from 0 m (cell s)) (from (0 + m) n (cell s))),
+      length-append (keep (test g) (from 0 m (cell s))) (keep (test g) (from (0 + m) n (cell s))),
+    )
 
 module _ (s : ℕ) (cs g : List ℕ) (size : length g ≡ s * s) where
   -- the walk after n cells

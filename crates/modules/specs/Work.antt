@@ -50,24 +50,31 @@ functions-work v word g size =
     is-tabulate 0 (paint (side v) (functions v word) g) (side v * side v) (workAt v word g) (length-paint (side v) (functions v word) g ∙ size)
     (λ i h. getD-paint (side v) (functions v word) g i (omega (arith, size)))
 
+-- each module is 0 or 1
+abbrev pub Small : ℕ → List ℕ → Type 0
+Small v g = (i : ℕ) → i < side v * side v → getD g i 0 < 2
+
 -- ---- codewords
 
-pub content-small : (v : ℕ) (ws : List ℕ) (i : ℕ) → i < side v * side v → getD (content v ws) i 0 < 2
+pub empty-small : (v : ℕ) → Small v (replicate (side v * side v) 0)
+empty-small v i h = omega (arith, getD-replicate {A = ℕ} (side v * side v) i 0 0 h)
+
+pub content-small : (v : ℕ) (ws : List ℕ) → Small v (content v ws)
 unfolding content
-content-small v ws i h = store-small (path v) (unpack ws) (replicate (side v * side v) 0) i (unpack-bits ws) (rw (getD-replicate {A = ℕ} (side v * side v) i 0 0 h) (omega arith))
+content-small v ws i h = store-small (path v) (unpack ws) (replicate (side v * side v) 0) i (unpack-bits ws) (empty-small v i h)
+
+-- the data modules of a work grid are the free places
+pub kind-at : (v word : ℕ) (g : List ℕ) → Small v g → (i : ℕ) → i < side v * side v → test (work v word g) i ≡ free v i
+unfolding workAt free
+kind-at v word g small i h = rw (work-at v word g i h) (go (isFunction v (i % side v) (i / side v)))
+  where
+    go : (b : Bool) → ltb (cond b (2 + functionColour v word (i % side v) (i / side v)) (getD g i 0)) 2 ≡ not b
+    go true = le-ltb (2 + functionColour v word (i % side v) (i / side v)) 2 (omega arith)
+    go false = lt-ltb (getD g i 0) 2 (small i h)
 
 module _ (v word : ℕ) where
   abbrev pub W : List ℕ
   W = work v word (replicate (side v * side v) 0)
-
-  pub kind-at : (i : ℕ) → i < side v * side v → test W i ≡ free v i
-  unfolding workAt free
-  kind-at i h =
-      rw (work-at v word (replicate (side v * side v) 0) i h) (go (isFunction v (i % side v) (i / side v)))
-    where
-      go : (b : Bool) → ltb (cond b (2 + functionColour v word (i % side v) (i / side v)) (getD (replicate (side v * side v) 0) i 0)) 2 ≡ not b
-      go true = le-ltb (2 + functionColour v word (i % side v) (i / side v)) 2 (omega arith)
-      go false = rw (getD-replicate {A = ℕ} (side v * side v) i 0 0 h)
 
   -- a place after the drawing
   drawn-at : (ws : List ℕ) (i : ℕ) → i < side v * side v → (b : Bool) → isFunction v (i % side v) (i / side v) ≡ b
@@ -86,7 +93,7 @@ module _ (v word : ℕ) where
   unfolding work workAt
   codewords-work ws =
       drawn-is (side v) ws W (work-length v word (replicate (side v * side v) 0))
-      ∙ ap (λ (ps : List ℕ). store ps (unpack ws) W) (places-path v W kind-at)
+      ∙ ap (λ (ps : List ℕ). store ps (unpack ws) W) (places-path v W (kind-at v word (replicate (side v * side v) 0) (empty-small v)))
       ∙ is-tabulate 0 (store (path v) (unpack ws) W) (side v * side v) (workAt v word (content v ws)) (store-length (path v) (unpack ws) W ∙ work-length v word (replicate (side v * side v) 0))
       (λ i h. drawn-at ws i h (isFunction v (i % side v) (i / side v)) refl)
 
@@ -101,10 +108,6 @@ turned v m g i =
 -- a content with the mask on it
 unfoldable pub maskContent : ℕ → ℕ → List ℕ → List ℕ
 maskContent v m g = tabulate (side v * side v) (turned v m g)
-
--- each module is 0 or 1
-abbrev pub Small : ℕ → List ℕ → Type 0
-Small v g = (i : ℕ) → i < side v * side v → getD g i 0 < 2
 
 flip-function : (b : Bool) (c : ℕ) → flip b (2 + c) ≡ 2 + c
 flip-function true c = rw (le-ltb (2 + c) 2 (omega arith))

@@ -48,6 +48,9 @@ readAt g at (laid o i) =
 abbrev pub listOf : Laid → List ℕ
 listOf (laid g i) = g
 
+unfoldable pub usedOf : Laid → ℕ
+usedOf (laid g i) = i
+
 -- the grid with the codewords in it
 abbrev pub drawn : ℕ → List ℕ → List ℕ → List ℕ
 drawn side cs g = listOf (walk side (layAt cs) 0 (pathLength side) (laid g 0))
@@ -63,6 +66,10 @@ unfolding walk
 walk-add side f k m zero s = simp add-zero
 walk-add side f k m (suc n) s =
     simp add-suc (ap₂ (λ (q : ℕ) (t : Laid). f (cell side q) t) (sym (add-assoc k m n)) (walk-add side f k m n s))
+
+pub walk-suc : (side : ℕ) (f : ℕ → Laid → Laid) (n : ℕ) (s : Laid) → walk side f 0 (suc n) s ≡ f (cell side n) (walk side f 0 n s)
+unfolding walk
+walk-suc side f n s = rw zero-add
 
 -- the cells of row v of the pair p
 pub cell-of : (side p v j : ℕ) → v < side → j < 2 → cell side ((p * side + v) * 2 + j) ≡ height side p v * side + (right side p - j)

@@ -8,6 +8,7 @@ pub use question::get_module;
 pub use read::read_codewords;
 pub use read::read_level;
 pub use read::read_mask;
+pub use read::same_functions;
 use types::Mask;
 use types::QrCodeEcc;
 use types::Version;
@@ -23,7 +24,6 @@ ghost use Rattle.laws.specs.Each.{each};
 ghost use Rattle.types.specs.Numbers.{levelOf, IsVersion, IsMask};
 ghost use Rattle.modules.specs.Zigzag.{bitOf, Laid, Laid.laid, layAt, walk, drawn};
 ghost use Rattle.modules.specs.Work.{work};
-ghost use Rattle.modules.specs.Again.{blanked, Worked};
 
 /*---- Codewords ----*/
 
@@ -108,7 +108,7 @@ fn draw_bits(grid: &mut [u8], size: usize, codewords: &[u8])
 // Draws the given sequence of 8-bit codewords (data and error correction) onto the entire
 // data area of this QR Code. Function modules need to be marked off before this is called.
 // Remainder modules (0 to 7) are left unchanged.
-pub fn draw_codewords(grid: &mut [u8], ver: Version, codewords: &[u8])
+fn draw_codewords(grid: &mut [u8], ver: Version, codewords: &[u8])
     requires { ⌜ Square (now grid) (side (ver .0)) ⌝ }
     requires { ⌜ IsVersion ver × (length (now codewords) ≤ 4096) ⌝ }
     ensures { λ _. ⌜ now (grid .exit) ≡ drawn (side (ver .0)) (now (codewords .entry)) (now (grid .entry)) ⌝ }
@@ -155,28 +155,6 @@ pub fn draw_label(grid: &mut [u8], ver: Version, ecl: QrCodeEcc, mask: Mask, cod
     ensures { λ _. ⌜ now (grid .exit) ≡ gridOf (ver .0) (levelOf ecl) (mask .0) (content (ver .0) (now (codewords .entry))) ⌝ }
 {
     draw_modules(grid, ver, ecl, mask, codewords);
-    apply_mask(grid, ver, mask);
-    patterns::draw_format_bits(grid, ver, ecl, mask);
-    finish(grid);
-}
-
-// Makes every data module light.
-fn blank(grid: &mut [u8])
-    ensures { λ _. ⌜ now (grid .exit) ≡ blanked (now (grid .entry)) ⌝ }
-{
-    for k in 0..grid.len() {
-        grid[k] = read::taken(grid[k], 0);
-    }
-}
-
-// The same over a grid that has the function modules already, as reading leaves it.
-pub fn redraw_label(grid: &mut [u8], ver: Version, ecl: QrCodeEcc, mask: Mask, codewords: &[u8])
-    requires { ⌜ Square (now grid) (side (ver .0)) ⌝ }
-    requires { ⌜ IsVersion ver × IsMask mask × (length (now codewords) ≤ 4096) × Worked (ver .0) (now grid) ⌝ }
-    ensures { λ _. ⌜ now (grid .exit) ≡ gridOf (ver .0) (levelOf ecl) (mask .0) (content (ver .0) (now (codewords .entry))) ⌝ }
-{
-    blank(grid);
-    draw_codewords(grid, ver, codewords);
     apply_mask(grid, ver, mask);
     patterns::draw_format_bits(grid, ver, ecl, mask);
     finish(grid);

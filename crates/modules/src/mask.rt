@@ -1,8 +1,8 @@
-// The eight masks. Each repeats after twelve rows: these are worked out once, and then laid over the grid.
+// The eight masks. Each repeats after six columns and twelve rows: as much is worked out once, and then laid over the grid.
 use types::Mask;
 use types::Version;
 ghost use mathlib.Core.Path.{_≡_};
-ghost use Prim.Native.Nat.{_*_, _%_, _<_, _≤_, min};
+ghost use Prim.Native.Nat.{_-_, _*_, _%_, _<_, _≤_, min};
 ghost use lib.ListN.{length, getD};
 ghost use Rattle.standard.specs.Numbers.{one};
 ghost use Rattle.standard.specs.Sizes.{side};
@@ -11,7 +11,7 @@ ghost use Rattle.laws.specs.Grid.{Square, paint};
 ghost use Rattle.laws.specs.Each.{each};
 ghost use Rattle.types.specs.Numbers.{IsVersion, IsMask};
 ghost use Rattle.modules.specs.Mask.{masked};
-ghost use Rattle.modules.specs.MaskRows.{inRow, turned};
+ghost use Rattle.modules.specs.MaskRows.{inRow, inverted};
 
 // Whether the mask inverts the module in column x and row y.
 fn inverted(mask: u8, x: usize, y: usize) -> bool
@@ -40,6 +40,18 @@ fn inversion(mask: u8, x: usize, y: usize) -> u8
     if inverted(mask, x, y) { 1 } else { 0 }
 }
 
+// Place k of the rows, in column x and row y: from column 6 on it is as the place six before it.
+fn place_of(rows: &[u8], mask: u8, x: usize, y: usize, k: usize) -> u8
+    requires { ⌜ (mask ≤ 7) × (x < 177) × (y < 177) × (k < length (now rows)) ⌝ }
+    requires { ⌜ (6 ≤ x → (6 ≤ k) × (getD (now rows) (k - 6) 0 ≡ one (inverts mask (x - 6) y))) ⌝ }
+    ensures { λ r. ⌜ r ≡ one (inverts mask x y) ⌝ }
+{
+    if x < 6 {
+        return inversion(mask, x, y);
+    }
+    rows[k - 6]
+}
+
 // Works out twelve rows of the mask.
 fn mask_rows(rows: &mut [u8], size: usize, mask: u8)
     requires { ⌜ (length (now rows) ≡ 12 * size) × (0 < size) × (size ≤ 177) × (mask ≤ 7) ⌝ }
@@ -48,7 +60,8 @@ fn mask_rows(rows: &mut [u8], size: usize, mask: u8)
     let mut x: usize = 0;
     let mut y: usize = 0;
     for k in 0..rows.len() {
-        rows[k] = inversion(mask, x, y);
+        let v = place_of(rows, mask, x, y, k);
+        rows[k] = v;
         x += 1;
         if x == size {
             x = 0;
@@ -59,7 +72,7 @@ fn mask_rows(rows: &mut [u8], size: usize, mask: u8)
 
 // A data module is inverted where invert is 1, a function module never is.
 fn flipped(invert: u8, v: u8) -> u8
-    ensures { λ r. ⌜ r ≡ turned invert v ⌝ }
+    ensures { λ r. ⌜ r ≡ inverted invert v ⌝ }
 {
     if v < 2 { v ^ invert } else { v }
 }
@@ -67,7 +80,7 @@ fn flipped(invert: u8, v: u8) -> u8
 // Lays the worked out rows over as many modules.
 fn mask_band(grid: &mut [u8], rows: &[u8])
     requires { ⌜ length (now grid) ≤ length (now rows) ⌝ }
-    ensures { λ _. ⌜ now (grid .exit) ≡ each (λ k v. turned (getD (now (rows .entry)) k 0) v) (now (grid .entry)) ⌝ }
+    ensures { λ _. ⌜ now (grid .exit) ≡ each (λ k v. inverted (getD (now (rows .entry)) k 0) v) (now (grid .entry)) ⌝ }
 {
     for k in 0..grid.len() {
         grid[k] = flipped(rows[k], grid[k]);
@@ -84,7 +97,7 @@ fn smaller(a: usize, b: usize) -> usize
 // Lays the worked out rows over the grid, again and again.
 fn mask_bands(grid: &mut [u8], rows: &[u8])
     requires { ⌜ 0 < length (now rows) ⌝ }
-    ensures { λ _. ⌜ now (grid .exit) ≡ each (λ k v. turned (getD (now (rows .entry)) (k % length (now (rows .entry))) 0) v) (now (grid .entry)) ⌝ }
+    ensures { λ _. ⌜ now (grid .exit) ≡ each (λ k v. inverted (getD (now (rows .entry)) (k % length (now (rows .entry))) 0) v) (now (grid .entry)) ⌝ }
 {
     let mut at: usize = 0;
     while at < grid.len() {

@@ -14,6 +14,7 @@ ghost use Rattle.modules.specs.Zigzag.{Laid, Laid.laid, readAt, walk, co
 ghost use Rattle.standard.specs.Format.{levelBits};
 ghost use Rattle.modules.specs.FormatBack.{formatBit, formatData, readLevel, readMask};
 ghost use Rattle.modules.specs.Back.{copied, readGrid, readWords};
+ghost use Rattle.modules.specs.Same.{agree, agreeTo};
 
 /*---- Format ----*/
 
@@ -126,7 +127,7 @@ fn read_bits(grid: &[u8], size: usize, out: &mut [u8])
 }
 
 // A function module stays, a data module becomes d.
-pub fn taken(c: u8, d: u8) -> u8
+fn taken(c: u8, d: u8) -> u8
     ensures { λ r. ⌜ r ≡ cond (ltb c 2) d c ⌝ }
 {
     if c < 2 { d } else { c }
@@ -173,4 +174,25 @@ pub fn read_codewords(
     unmask(grid, work, ver, ecl, mask);
     let size = patterns::size_of(ver);
     read_bits(work, size, out);
+}
+
+/*---- Function modules ----*/
+
+// Whether c is the color of the module w of a work grid, if that is a function module.
+fn agrees(c: u8, w: u8) -> bool
+    ensures { λ r. ⌜ r ≡ agree c w ⌝ }
+{
+    (w < 2) | (w % 2 == c)
+}
+
+// Whether the function modules of work have their colors in grid.
+pub fn same_functions(grid: &[u8], work: &[u8]) -> bool
+    requires { ⌜ length (now grid) ≡ length (now work) ⌝ }
+    ensures { λ r. ⌜ r ≡ agreeTo (length (now (work .entry))) (now (grid .entry)) (now (work .entry)) ⌝ }
+{
+    let mut all = true;
+    for k in 0..work.len() {
+        all = all & agrees(grid[k], work[k]);
+    }
+    all
 }

@@ -1,21 +1,22 @@
 -- The first checks: the version of a side, the first byte above 1, whether two lists are the same, and the refusal that comes first.
 -- Assumes nothing.
-use Prim.Native.Nat.{ℕ, zero, suc, _+_, _-_, _*_, _/_, _%_, _≤_, _<_}
+use Prim.Native.Nat.{ℕ, suc, _+_, _-_, _*_, _/_, _%_, _≤_, _<_}
 use mathlib.Core.Bool.{Bool, true, false, cond, _&&_}
 use mathlib.Core.List.{List}
 use mathlib.Core.Path.{_≡_, refl, sym, ap, ap₂, _∙_}
-use mathlib.Core.Logic.{⊎-elim}
-use native.Mathlib.Nat.{mul-le-mul, eq-or-lt-of-le}
+use native.Mathlib.Nat.{mul-le-mul}
 use native.Mathlib.Numerals.{add-one}
 use native.Mathlib.Omega.{arith}
 use lib.Dec.{ltb, eqb}
 use lib.ListN.{length, getD, drop, drop-of-length-le}
 use lib.Seq.{drop-cons}
-use borrow.Author.Tests.{lt-ltb, le-ltb, eq-eqb, ne-eqb, ltb-false}
+use borrow.Author.Tests.{lt-ltb, le-ltb, eq-eqb, ne-eqb, ltb-true, ltb-false}
 use Rattle.standard.specs.Numbers.{least, same}
 use Rattle.standard.specs.Sizes.{side}
 use Rattle.standard.specs.Plan.{refusal}
 use Rattle.standard.specs.Module.{versionOf, validSide}
+use Rattle.modules.specs.All.{allTo, all-next, all-at}
+use Rattle.laws.specs.Least.{least-before, least-none}
 use Rattle.modules.specs.Question.{valid-range, valid-low, valid-high, valid-rest}
 use Rattle.standard.specs.Read.{firstAbove, nothing, refusedBy, firstRefusal}
 
@@ -40,16 +41,6 @@ version-side s low high e = rw (← valid-rest s low high, eq-eqb (s % 4) 1 e)
 
 unfoldable pub aboveFrom : List ℕ → ℕ → ℕ
 aboveFrom g i = least i (length g - i) (λ j. ltb 1 (getD g j 0))
-
--- before the lowest at which a test passes, it does not
-least-before : (p : ℕ → Bool) (k n i : ℕ) → k ≤ i → i < least k n p → p i ≡ false
-least-before p k zero i a b = absurd (omega arith)
-least-before p k (suc n) i a b = go (p k) refl b (λ more l. least-before p (suc k) n i more l)
-  where
-    go : (t : Bool) → p k ≡ t → i < elim t as (λ _. ℕ) [ true ↦ k | false ↦ least (suc k) n p ]
-        → (suc k ≤ i → i < least (suc k) n p → p i ≡ false) → p i ≡ false
-    go true e l rest = absurd (omega arith)
-    go false e l rest = ⊎-elim (λ same. ap p (sym same) ∙ e) (λ more. rest more l) (eq-or-lt-of-le a)
 
 module _ (g : List ℕ) where
   pub above-start : firstAbove g ≡ aboveFrom g 0
@@ -78,6 +69,20 @@ module _ (g : List ℕ) where
   unfolding firstAbove
   above-none h i b =
       omega (arith, ltb-false 1 (getD g i 0) (least-before (λ j. ltb 1 (getD g j 0)) 0 (length g) i (omega arith) (omega arith)))
+
+pub none-above : (g : List ℕ) → ((i : ℕ) → i < length g → getD g i 0 < 2) → firstAbove g ≡ length g
+unfolding firstAbove
+none-above g h = least-none (λ i. ltb 1 (getD g i 0)) 0 (length g) (λ i a b. le-ltb 1 (getD g i 0) (omega (arith, h i (omega arith)))) ∙ omega arith
+
+-- the first n bytes are 0 or 1
+abbrev pub smallTo : ℕ → List ℕ → Bool
+smallTo n g = allTo n (λ k. ltb (getD g k 0) 2)
+
+pub small-next : (g : List ℕ) (n : ℕ) (b : Bool) → b ≡ smallTo n g → b && ltb (getD g n 0) 2 ≡ smallTo (n + 1) g
+small-next g n b e = all-next (λ k. ltb (getD g k 0) 2) n b (ltb (getD g n 0) 2) e refl
+
+pub small-all : (g : List ℕ) (b : Bool) → b ≡ smallTo (length g) g → b ≡ true → length g ≡ firstAbove g
+small-all g b e t = sym (none-above g (λ i h. ltb-true (getD g i 0) 2 (all-at (λ k. ltb (getD g k 0) 2) (length g) i (sym e ∙ t) h)))
 
 -- ---- two lists
 

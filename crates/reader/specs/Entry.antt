@@ -5,17 +5,15 @@ use mathlib.Core.List.{List, _++_}
 use mathlib.Core.Path.{_≡_, refl, sym, ap, ap₂, _∙_, subst}
 use native.Mathlib.Nat.{mul-le-mul}
 use native.Mathlib.Omega.{arith}
-use lib.ListN.{length, take, drop, replicate, length-replicate, length-append, length-take, length-drop}
-use lib.Seq.{drop-append-add, drop-drop}
+use lib.ListN.{length, take, drop, replicate, length-replicate, length-append, length-take, length-drop, replicate-append-replicate}
+use lib.Seq.{drop-append-add, drop-drop, take-at}
 use Rattle.standard.specs.Sizes.{side, rawModules, rawCodewords, dataCodewords}
 use Rattle.standard.specs.Encode.{zeroed}
 use Rattle.laws.specs.Grid.{Square}
 use Rattle.modules.specs.Work.{Small}
-use Rattle.laws.specs.Lists.{length-tabulate}
 use Rattle.types.specs.declared.Version.{Version}
 use Rattle.types.specs.declared.QrCodeEcc.{QrCodeEcc}
 use Rattle.types.specs.Numbers.{levelOf, IsVersion}
-use Rattle.blocks.specs.Undo.{dataOf}
 use Rattle.reader.specs.declared.Refusal.{Refusal}
 use Rattle.reader.specs.declared.Outcome.{Outcome}
 use Rattle.reader.specs.declared.Outcome.the-variants.{Refused}
@@ -30,16 +28,17 @@ use Rattle.reader.specs.Recovered.{raw-fits, data-fits, Looks}
 
 -- ---- parts of arrays
 
-pub data-long : (v l : ℕ) (all d : List ℕ) → d ≡ dataOf v l all → length d ≡ dataCodewords v l
-unfolding dataOf
-data-long v l all d e = ap length e ∙ length-tabulate (dataCodewords v l) _
-
 part-long : (n m : ℕ) (xs : List ℕ) → n ≤ length xs → n ≡ m → length (take (n - 0) xs) ≡ m
 part-long n m xs h e = length-take (n - 0) xs ∙ omega arith
 
-pub raw-part : (v n : ℕ) (xs : List ℕ) → n ≡ rawModules v → 1 ≤ v → v ≤ 40 → 3706 ≤ length xs → length (take (n / 8 - 0) xs) ≡ rawCodewords v
+pub raw-part : (v n : ℕ) → n ≡ rawModules v → 1 ≤ v → v ≤ 40 → take (n / 8 + 1 - 0) (replicate {A = ℕ} 3707 0) ≡ replicate (rawCodewords v + 1) 0
 unfolding rawCodewords
-raw-part v n xs e low high h = part-long (n / 8) (rawModules v / 8) xs (omega (arith, raw-fits v n e low high)) (ap (λ (x : ℕ). x / 8) e)
+raw-part v n e low high =
+    let k : 3707 ≡ rawModules v / 8 + 1 + (3706 - rawModules v / 8) = omega (arith, raw-fits v n e low high) in
+    let d : n / 8 + 1 - 0 ≡ rawModules v / 8 + 1 = omega arith in
+    ap₂ (λ (a b : ℕ). take a (replicate {A = ℕ} b 0)) d k
+    ∙ ap (take (rawModules v / 8 + 1)) (sym (replicate-append-replicate {A = ℕ} (rawModules v / 8 + 1) (3706 - rawModules v / 8) 0))
+    ∙ take-at {A = ℕ} (replicate (rawModules v / 8 + 1) 0) (replicate (3706 - rawModules v / 8) 0) (rawModules v / 8 + 1) (length-replicate {A = ℕ} (rawModules v / 8 + 1) 0)
 
 pub data-part : (v n : ℕ) (ecl : QrCodeEcc) (xs : List ℕ) → n ≡ dataCodewords v (levelOf ecl) → 1 ≤ v → v ≤ 40 → 2956 ≤ length xs
     → length (take (n - 0) xs) ≡ dataCodewords v (levelOf ecl)

@@ -78,11 +78,11 @@ byte-at [] h i = omega arith
 byte-at (x ∷ p) h zero = h .0
 byte-at (x ∷ p) h (suc i) = byte-at p (h .1) i
 
-module _ (v l : ℕ) (ws : List ℕ) (r : PairRange v l) (full : length ws ≡ dataCodewords v l) (bytes : Bytes ws) where
-  all-bytes : (p : ℕ) → getD (allWords v l ws) p 0 < 256
+module _ (v l : ℕ) (ws : List ℕ) (r : PairRange v l) (full : length ws ≡ dataCodewords v l) (bytes : (i : ℕ) → getD ws i 0 < 256) where
+  pub all-bytes : (p : ℕ) → getD (allWords v l ws) p 0 < 256
   all-bytes p =
       split p (dataCodewords v l)
-      (λ h. subst (λ (n : ℕ). n < 256) (sym (all-data v l ws r full p h)) (byte-at ws bytes _))
+      (λ h. subst (λ (n : ℕ). n < 256) (sym (all-data v l ws r full p h)) (bytes _))
       (λ h. split p (rawCodewords v) (late h)
       (λ k. let e : getD (allWords v l ws) p 0 ≡ 0 = List·getD-eq-default (allWords v l ws) 0 (omega (arith, all-long v l ws r full)) in omega arith))
     where
@@ -109,7 +109,7 @@ drawable v l m ss p =
       level = p .level;
       mask = p .mask;
       full = all-long v l (dataWords v l ss) r full;
-      bytes = all-bytes v l (dataWords v l ss) r full (data-bytes v l ss (fits-room v l ss (p .fit)));
+      bytes = all-bytes v l (dataWords v l ss) r full (byte-at (dataWords v l ss) (data-bytes v l ss (fits-room v l ss (p .fit))));
     }
 
 pub grid-length : (v l m : ℕ) (c : List ℕ) → length (grid v l m c) ≡ side v * side v

@@ -1,4 +1,5 @@
 pub mod Labels
+pub mod Drawn
 pub mod Theorems
 pub mod Redraw
 pub mod Answers

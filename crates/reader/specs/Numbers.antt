@@ -2,10 +2,10 @@
 -- Assumes nothing.
 use Prim.Native.Nat.{ℕ, zero, suc, _+_, _-_, _*_, _/_, _≤_, _<_}
 use mathlib.Core.List.{List, [], _∷_, _++_}
-use mathlib.Core.Path.{_≡_, refl, sym, ap, ap₂, _∙_, subst}
+use mathlib.Core.Path.{_≡_, refl, sym, ap, ap₂, _∙_}
 use native.Mathlib.Omega.{arith}
 use lib.ListN.{length, getD, take, drop, take-append-drop}
-use lib.Seq.{drop-append-add, drop-drop, take-all}
+use lib.Seq.{drop-append-add, drop-drop}
 use Rattle.standard.specs.Numbers.{tabulate}
 use Rattle.standard.specs.Segments.{Part}
 use Rattle.standard.specs.Read.{Read, Finds, Reads}

@@ -1,12 +1,12 @@
--- Data codewords that are read from a grid and drawn again: the grid shows a label exactly if it is drawn again and they say one.
+-- Data codewords that are read from a grid: it shows a label exactly if they draw it and say one.
 -- Assumes nothing.
-use Prim.Native.Nat.{ℕ, _*_, _/_, _≤_}
-use mathlib.Core.Bool.{Bool, true, false, not, _&&_, true≢false}
-use mathlib.Core.List.{List, [], _∷_}
-use mathlib.Core.Path.{_≡_, refl, sym, ap, ap₂, _∙_, subst}
+use Prim.Native.Nat.{ℕ, _+_, _*_, _/_, _≤_}
+use mathlib.Core.Bool.{Bool, true, false, not, true≢false}
+use mathlib.Core.List.{List, [], _∷_, _++_}
+use mathlib.Core.Path.{_≡_, refl, sym, ap, _∙_, subst}
 use native.Mathlib.Omega.{arith}
-use lib.ListN.{length}
-use borrow.Author.Tests.{eq-eqb}
+use lib.ListN.{length, take, replicate}
+use lib.Seq.{take-at}
 use Rattle.standard.specs.Numbers.{same}
 use Rattle.standard.specs.Sizes.{side, rawModules, rawCodewords, dataCodewords}
 use Rattle.standard.specs.Segments.{Part, Segment}
@@ -21,11 +21,11 @@ use Rattle.types.specs.declared.QrCodeEcc.{QrCodeEcc}
 use Rattle.types.specs.Numbers.{levelOf}
 use Rattle.segments.specs.Words.{level-le}
 use Rattle.segments.specs.Records.{partsOf}
-use Rattle.blocks.specs.Places.{all-long}
 use Rattle.blocks.specs.Undo.{dataOf}
 use Rattle.blocks.specs.Theorems.{data-back}
 use Rattle.modules.specs.FormatBack.{readLevel, readMask}
 use Rattle.modules.specs.Back.{readWords}
+use Rattle.modules.specs.Same.{same-self}
 use Rattle.modules.specs.Reading.{Drawable, read-drawn}
 use Rattle.reader.specs.declared.Outcome.{Outcome}
 use Rattle.reader.specs.declared.Outcome.the-variants.{Refused}
@@ -43,11 +43,11 @@ pub record Looks (g text records : List ℕ) (r : Outcome) (o q : List ℕ) : Ty
 
 -- ---- sizes
 
-pub raw-small : (v n : ℕ) → n ≡ rawCodewords v → 1 ≤ v → v ≤ 40 → n ≤ 4096
+pub raw-small : (v n : ℕ) → n ≡ rawCodewords v + 1 → 1 ≤ v → v ≤ 40 → n ≤ 4096
 unfolding rawCodewords
 raw-small v n e low high = omega (arith, version-range v low high .most)
 
-pub raw-fits : (v n : ℕ) → n ≡ rawModules v → 1 ≤ v → v ≤ 40 → n / 8 ≤ 3706
+pub raw-fits : (v n : ℕ) → n ≡ rawModules v → 1 ≤ v → v ≤ 40 → n / 8 + 1 ≤ 3707
 raw-fits v n e low high = omega (arith, version-range v low high .most)
 
 pub data-fits : (v n : ℕ) (ecl : QrCodeEcc) → n ≡ dataCodewords v (levelOf ecl) → 1 ≤ v → v ≤ 40 → n ≤ 2956
@@ -56,31 +56,17 @@ data-fits v n ecl e low high = omega (arith, pair-range v (levelOf ecl) low high
 pub data-small : (v n : ℕ) (ecl : QrCodeEcc) → n ≡ dataCodewords v (levelOf ecl) → 1 ≤ v → v ≤ 40 → n ≤ 4096
 data-small v n ecl e low high = omega (arith, data-fits v n ecl e low high)
 
-pub all-small : (v : ℕ) (ecl : QrCodeEcc) (d all : List ℕ) → all ≡ allWords v (levelOf ecl) d → length d ≡ dataCodewords v (levelOf ecl) → 1 ≤ v → v ≤ 40 → length all ≤ 4096
-all-small v ecl d all e full low high =
-    raw-small v (length all) (ap length e ∙ all-long v (levelOf ecl) d (pair-range v (levelOf ecl) low high (level-le ecl)) full) low high
-
--- ---- what the code reads and draws
-
-pub data-read : (v l m : ℕ) (g all read d : List ℕ) → read ≡ readWords v l m g all → d ≡ dataOf v l read → d ≡ dataOf v l (readWords v l m g all)
-data-read v l m g all read d e f = f ∙ ap (dataOf v l) e
-
-pub drawn-again : (v l m : ℕ) (g d all w : List ℕ) (r : Bool) → all ≡ allWords v l d → w ≡ grid v l m (content v all) → r ≡ same g w
-    → r ≡ same g (grid v l m (content v (allWords v l d)))
-drawn-again v l m g d all w r e f h = h ∙ ap (same g) (f ∙ ap (λ (x : List ℕ). grid v l m (content v x)) e)
-
--- ---- what that says
-
-same-self : (xs : List ℕ) → same xs xs ≡ true
-same-self [] = refl
-same-self (x ∷ xs) = ap₂ (λ (a b : Bool). a && b) (eq-eqb x x refl) (same-self xs)
+-- ---- what is read, and what that says
 
 not-not : (b : Bool) → not (not b) ≡ b
 not-not true = refl
 not-not false = refl
 
-module _ (v l m : ℕ) (g all d : List ℕ) (size : length g ≡ side v * side v) (lv : l ≡ readLevel (side v) g) (mk : m ≡ readMask (side v) g) (full : length all ≡ rawCodewords v)
-    (is : d ≡ dataOf v l (readWords v l m g all)) where
+-- the data codewords of a grid
+abbrev pub dataRead : ℕ → ℕ → ℕ → List ℕ → List ℕ
+dataRead v l m g = dataOf v l (take (rawCodewords v) (readWords v l m g (replicate (rawCodewords v + 1) 0)))
+
+module _ (v l m : ℕ) (g d : List ℕ) (size : length g ≡ side v * side v) (lv : l ≡ readLevel (side v) g) (mk : m ≡ readMask (side v) g) (is : d ≡ dataRead v l m g) where
   -- a label that the grid shows has the version, level, mask and data codewords that are read
   pub record Same (a : Label) : Type 0 where
     pub version : a .version ≡ v
@@ -91,16 +77,17 @@ module _ (v l m : ℕ) (g all d : List ℕ) (size : length g ≡ side v * side v
   at-version : (k n : ℕ) (ss : List Segment) → Proper v k n ss → g ≡ grid v k n (content v (codewordsOf v k ss)) → Same (labelOf v k n ss)
   at-version k n ss p e =
       let w : Drawable v k n (codewordsOf v k ss) = drawable v k n ss p in
-      let r = read-drawn v k n (codewordsOf v k ss) all w (full ∙ sym (w .full)) in
+      let r = read-drawn v k n (codewordsOf v k ss) w in
       let hk : k ≡ l = sym (lv ∙ ap (readLevel (side v)) e ∙ r .0) in
       let hn : n ≡ m = sym (mk ∙ ap (readMask (side v)) e ∙ r .1) in
-      let ws : readWords v k n g all ≡ codewordsOf v k ss = ap (λ (x : List ℕ). readWords v k n x all) e ∙ r .2 in
-      let back : dataOf v k (readWords v k n g all) ≡ dataWords v k ss = ap (dataOf v k) ws ∙ data-back v k (p .least) (p .most) (p .level) (dataWords v k ss) (words-long v k ss (p .fit)) in
+      let ws : readWords v k n g (replicate (rawCodewords v + 1) 0) ≡ codewordsOf v k ss ++ (0 ∷ []) = ap (λ (x : List ℕ). readWords v k n x (replicate (rawCodewords v + 1) 0)) e ∙ r .2 in
+      let all : take (rawCodewords v) (readWords v k n g (replicate (rawCodewords v + 1) 0)) ≡ codewordsOf v k ss = ap (take (rawCodewords v)) ws ∙ take-at (codewordsOf v k ss) (0 ∷ []) (rawCodewords v) (w .full) in
+      let back : dataRead v k n g ≡ dataWords v k ss = ap (dataOf v k) all ∙ data-back v k (p .least) (p .most) (p .level) (dataWords v k ss) (words-long v k ss (p .fit)) in
       record {
         version = refl;
         level = hk;
         mask = hn;
-        words = is ∙ subst (λ (x : ℕ). dataOf v l (readWords v l x g all) ≡ dataWords v l ss) hn (subst (λ (x : ℕ). dataOf v x (readWords v x n g all) ≡ dataWords v x ss) hk back);
+        words = is ∙ subst (λ (x : ℕ). dataRead v l x g ≡ dataWords v l ss) hn (subst (λ (x : ℕ). dataRead v x n g ≡ dataWords v x ss) hk back);
       }
 
   pub same-label : (a : Label) → Shows g a → Same a
@@ -111,15 +98,15 @@ module _ (v l m : ℕ) (g all d : List ℕ) (size : length g ≡ side v * side v
       subst (λ (w : ℕ). Proper w (a .level) (a .mask) (a .segments) → g ≡ gridOf (labelOf w (a .level) (a .mask) (a .segments)) → w ≡ v → Same (labelOf w (a .level) (a .mask) (a .segments)))
       (sym e) (λ p q f. at-version (a .level) (a .mask) (a .segments) p q) p (x .drawn) e
 
-  module _ (r : Bool) (again : r ≡ same g (grid v l m (content v (allWords v l d)))) where
-    -- what is not drawn again is no label's
+  module _ (r : Bool) (tested : r ≡ same g (grid v l m (content v (allWords v l d)))) where
+    -- what is not drawn is no label's
     pub never : r ≡ false → (a : Label) → Shows g a → ⊥
     unfolding gridOf
     never f a x =
         let s : Same a = same-label a x in
         let e : gridOf a ≡ grid v l m (content v (allWords v l d)) =
         rw (s .version, s .level, s .mask) (ap (λ (w : List ℕ). grid v l m (content v (allWords v l w))) (sym (s .words))) in
-        let t : true ≡ false = sym (ap (same g) (sym e ∙ sym (x .drawn)) ∙ same-self g) ∙ sym again ∙ f in
+        let t : true ≡ false = sym (ap (same g) (sym e ∙ sym (x .drawn)) ∙ same-self g) ∙ sym tested ∙ f in
         true≢false t
 
     pub looks-none : (text records : List ℕ) → not r ≡ true → Looks g text records (Refused NoLabel) text records
@@ -131,7 +118,7 @@ module _ (v l m : ℕ) (g all d : List ℕ) (size : length g ≡ side v * side v
     finds-told : (text : List ℕ) (records : List Part) (z : List ℕ) (out : Read) → r ≡ true → 1 ≤ v → v ≤ 40 → l ≤ 3 → m ≤ 7 → Told v l m d text records z out → Finds g text records z out
     unfolding gridOf
     finds-told text records z out t low high hl hm (says ss e q) =
-        let drawn : g ≡ grid v l m (content v (allWords v l d)) = same-eq g (grid v l m (content v (allWords v l d))) (true-T (same g (grid v l m (content v (allWords v l d)))) (sym again ∙ t)) in
+        let drawn : g ≡ grid v l m (content v (allWords v l d)) = same-eq g (grid v l m (content v (allWords v l d))) (true-T (same g (grid v l m (content v (allWords v l d)))) (sym tested ∙ t)) in
         shown (labelOf v l m ss)
         (record {
           label = is-label v l m ss (record { least = low; most = high; level = hl; mask = hm; good = e .goods; fit = e .fit });

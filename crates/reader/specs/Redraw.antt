@@ -18,6 +18,7 @@ use Rattle.standard.specs.Choice.{chosen}
 use Rattle.standard.specs.Plan.{Plan, planned, lowestFit, levelled, planFit, plan}
 use Rattle.standard.specs.Encode.{zeroed, accept, drawn, draw, drawPlan, encode}
 use Rattle.standard.specs.Label.{Label, gridOf, Shows}
+use Rattle.laws.specs.Least.{least-here}
 use Rattle.laws.specs.Tests.{T-true, and-left, and-right}
 use Rattle.parser.specs.Few.{few-records}
 use Rattle.parser.specs.Parts.{joined, partsFrom, parts-mean, parts-good}
@@ -52,13 +53,6 @@ none-bad text (r ∷ rs) t =
 
 -- ---- planning one version
 
-least-one : (k n : ℕ) (p : ℕ → Bool) → n ≡ 1 → p k ≡ true → least k n p ≡ k
-least-one k n p e h = ap (λ (x : ℕ). least k x p) e ∙ step (p k) h
-  where
-    step : (b : Bool) → b ≡ true → elim b [ true ↦ k | false ↦ suc k ] ≡ k
-    step true q = refl
-    step false q = absurd (let z : _≡_ {A = ℕ} 0 1 = cc in omega arith)
-
 module _ (v l m : ℕ) (ss : List Segment) (p : Proper v l m ss) (rest : List ℕ) where
   text : List ℕ
   text = characters ss ++ rest
@@ -76,7 +70,8 @@ module _ (v l m : ℕ) (ss : List Segment) (p : Proper v l m ss) (rest : List �
   fit-one : planFit l v v false ss ≡ planned v l (totalBits v ss)
   unfolding planFit lowestFit levelled
   fit-one =
-      let e : least v (suc v - v) (fits l ss) ≡ v = least-one v (suc v - v) (fits l ss) (omega arith) (T-true (fits l ss v) (p .fit)) in
+      let one : suc v - v ≡ 1 = omega arith in
+      let e : least v (suc v - v) (fits l ss) ≡ v = ap (λ (n : ℕ). least v n (fits l ss)) one ∙ least-here (fits l ss) v 0 (T-true (fits l ss v) (p .fit)) in
       rw (e, le-ltb v v (omega arith))
 
   plan-one : plan l v v m false text (recordsFrom 0 ss) ≡ planned v l (totalBits v ss)

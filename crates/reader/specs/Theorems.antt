@@ -1,6 +1,6 @@
 -- What the reader's relation says, over the definition alone: its outcome is unique, and it accepts exactly the grids that show a label.
 -- Assumes nothing.
-use Prim.Native.Nat.{ℕ, zero, suc, _+_, _*_, _%_, _≤_, _<_}
+use Prim.Native.Nat.{ℕ, _*_, _%_, _≤_, _<_}
 use mathlib.Core.Bool.{Bool, true, false, cond, _&&_}
 use mathlib.Core.List.{List}
 use mathlib.Core.Path.{_≡_, refl, sym, ap, _∙_, subst}
@@ -8,7 +8,6 @@ use native.Mathlib.Omega.{arith}
 use lib.Dec.{ltb, leb, eqb}
 use lib.ListN.{length, getD}
 use borrow.Author.Tests.{le-ltb, le-leb, eq-eqb}
-use Rattle.standard.specs.Numbers.{least}
 use Rattle.standard.specs.Sizes.{side}
 use Rattle.standard.specs.Segments.{Part}
 use Rattle.standard.specs.Plan.{Refusal, refusal}
@@ -22,6 +21,7 @@ use Rattle.blocks.specs.Words.{length-each, getD-each}
 use Rattle.modules.specs.Work.{work, maskContent}
 use Rattle.modules.specs.Finished.{finish-work}
 use Rattle.standard.specs.Read.{unread, readAs, Read, firstAbove, First, nothing, refusedBy, firstRefusal, refuseTo, characters, written, labelled, Finds, shown, none, Reads, refuses, looks}
+use Rattle.reader.specs.Early.{none-above}
 use Rattle.reader.specs.Labels.{Proper, proper, codewordsOf, grid-length, no-two-labels}
 
 -- ---- any two outcomes are equal
@@ -64,21 +64,6 @@ grid-small v l m c i h =
     let long : length w ≡ side v * side v = sym (length-each (λ _ k. k % 2) w) ∙ ap length (finish-work v l m c) ∙ grid-length v l m c in
     let e : getD (grid v l m c) i 0 ≡ getD w i 0 % 2 = ap (λ (g : List ℕ). getD g i 0) (sym (finish-work v l m c)) ∙ getD-each (λ _ k. k % 2) w i (omega arith) in
     omega arith
-
-least-none : (p : ℕ → Bool) (k n : ℕ) → ((i : ℕ) → k ≤ i → i < k + n → p i ≡ false) → least k n p ≡ k + n
-least-none p k zero h = omega arith
-least-none p k (suc n) h =
-    let e : least (suc k) n p ≡ suc k + n = least-none p (suc k) n (λ i a b. h i (omega arith) (omega arith)) in
-    let f : p k ≡ false = h k (omega arith) (omega arith) in
-    step (p k) f ∙ e ∙ omega arith
-  where
-    step : (b : Bool) → b ≡ false → elim b [ true ↦ k | false ↦ least (suc k) n p ] ≡ least (suc k) n p
-    step true q = absurd (let z : _≡_ {A = ℕ} 0 1 = cc in omega arith)
-    step false q = refl
-
-pub none-above : (g : List ℕ) → ((i : ℕ) → i < length g → getD g i 0 < 2) → firstAbove g ≡ length g
-unfolding firstAbove
-none-above g h = least-none (λ i. ltb 1 (getD g i 0)) 0 (length g) (λ i a b. le-ltb 1 (getD g i 0) (omega (arith, h i (omega arith)))) ∙ omega arith
 
 pub no-first : (g : List ℕ) (s n : ℕ) → validSide s ≡ true → length g ≡ s * s → firstAbove g ≡ length g → 40_000 ≤ n
     → firstRefusal g s n ≡ nothing

@@ -3,8 +3,10 @@ use super::Early;
 use super::Refusal;
 ghost use mathlib.Core.Path.{_≡_};
 ghost use mathlib.Core.Bool.{cond};
+ghost use lib.ListN.{length};
 ghost use Rattle.standard.specs.Module.{versionOf, validSide};
 ghost use Rattle.standard.specs.Read.{firstAbove};
+ghost use Rattle.reader.specs.Early.{smallTo};
 ghost use Rattle.reader.specs.Answers.{Checks};
 
 // The version of a side; 0 where it is that of none.
@@ -23,10 +25,24 @@ fn version_of(size: usize) -> u8
     ((size - 17) / 4) as u8
 }
 
+// Whether every byte is 0 or 1. It looks at all of them, many at a time.
+fn all_small(grid: &[u8]) -> bool
+    ensures { λ r. ⌜ r ≡ smallTo (length (now (grid .entry))) (now (grid .entry)) ⌝ }
+{
+    let mut all = true;
+    for k in 0..grid.len() {
+        all = all & (grid[k] < 2);
+    }
+    all
+}
+
 // The place of the first byte above 1; the length where there is none.
 fn first_above(grid: &[u8]) -> usize
     ensures { λ r. ⌜ r ≡ firstAbove (now (grid .entry)) ⌝ }
 {
+    if all_small(grid) {
+        return grid.len();
+    }
     let mut i: usize = 0;
     while i < grid.len() {
         if grid[i] > 1 {

@@ -1,4 +1,4 @@
-// The strict reader: what label a grid shows. What is read is drawn again and compared with the whole grid.
+// The strict reader: what label a grid shows. Function modules and all codewords are compared with what the label draws.
 mod check; // check.rt: the first checks
 
 use parser::Counted;
@@ -6,19 +6,20 @@ use types::Mask;
 use types::QrCodeEcc;
 use types::Version;
 ghost use mathlib.Core.Path.{_≡_};
-ghost use Prim.Native.Nat.{_*_, _≤_};
-ghost use lib.ListN.{length, replicate};
+ghost use mathlib.Core.Bool.{_&&_};
+ghost use mathlib.Core.List.{[], _∷_, _++_};
+ghost use Prim.Native.Nat.{_+_, _*_, _≤_};
+ghost use lib.ListN.{length, take, replicate};
 ghost use Rattle.standard.specs.Numbers.{same};
 ghost use Rattle.standard.specs.Sizes.{side, rawCodewords, dataCodewords};
 ghost use Rattle.standard.specs.Blocks.{allWords};
-ghost use Rattle.standard.specs.Grid.{content, grid as gridOf};
 ghost use Rattle.laws.specs.Grid.{Square};
 ghost use Rattle.types.specs.Numbers.{levelOf, IsVersion, IsMask};
 ghost use Rattle.blocks.specs.Undo.{dataOf};
 ghost use Rattle.modules.specs.FormatBack.{readLevel, readMask};
 ghost use Rattle.modules.specs.Work.{Small};
 ghost use Rattle.modules.specs.Back.{readGrid, readWords};
-ghost use Rattle.modules.specs.Again.{Worked};
+ghost use Rattle.modules.specs.Same.{agreeTo};
 ghost use Rattle.reader.specs.Numbers.{FindsNumbers, ReadsNumbers};
 ghost use Rattle.reader.specs.Told.{Tells};
 ghost use Rattle.reader.specs.Recovered.{Looks};
@@ -55,7 +56,7 @@ pub enum Outcome {
 }
 
 // What the first checks answer: the version, or a refusal.
-pub enum Early {
+enum Early {
     Fine(Version),
     Refused(Refusal),
 }
@@ -77,7 +78,8 @@ fn equal(a: &[u8], b: &[u8]) -> bool
     true
 }
 
-// Reads the data codewords of a grid into data, with work to draw in and room for all codewords.
+// Reads all codewords of a grid into all, which is zero and one byte longer, for the remainder modules; and the data codewords
+// into data. Work is to draw in.
 fn read_data(
     grid: &[u8],
     ver: Version,
@@ -89,32 +91,47 @@ fn read_data(
 )
     requires { ⌜ Square (now grid) (side (ver .0)) ⌝ }
     requires { ⌜ Square (now work) (side (ver .0)) ⌝ }
-    requires { ⌜ IsVersion ver × IsMask mask × (length (now all) ≡ rawCodewords (ver .0)) × (length (now «data») ≡ dataCodewords (ver .0) (levelOf ecl)) ⌝ }
-    ensures { λ _. ⌜ now («data» .exit) ≡ dataOf (ver .0) (levelOf ecl) (readWords (ver .0) (levelOf ecl) (mask .0) (now (grid .entry)) (now (all .entry))) ⌝ }
+    requires { ⌜ IsVersion ver × IsMask mask × (length (now all) ≡ rawCodewords (ver .0) + 1) × (length (now «data») ≡ dataCodewords (ver .0) (levelOf ecl)) ⌝ }
+    ensures { λ _. ⌜ now (all .exit) ≡ readWords (ver .0) (levelOf ecl) (mask .0) (now (grid .entry)) (now (all .entry)) ⌝ }
+    ensures { λ _. ⌜ now («data» .exit) ≡ dataOf (ver .0) (levelOf ecl) (take (rawCodewords (ver .0)) (now (all .exit))) ⌝ }
     ensures { λ _. ⌜ now (work .exit) ≡ readGrid (ver .0) (levelOf ecl) (mask .0) (now (grid .entry)) ⌝ }
 {
     modules::read_codewords(grid, work, ver, ecl, mask, all);
-    blocks::data_words(ver, ecl, all, data);
+    let raw = all.len() - 1;
+    blocks::data_words(ver, ecl, &all[0..raw], data);
 }
 
-// Draws data codewords again, check bytes and all, and answers whether that is the whole grid. Reading has left its function modules in work.
-fn draws_again(
+// Makes all codewords of data in again, check bytes and all, and answers whether they are those in all.
+fn same_words(ver: Version, ecl: QrCodeEcc, data: &[u8], all: &[u8], again: &mut [u8]) -> bool
+    requires { ⌜ IsVersion ver × (length (now all) ≡ rawCodewords (ver .0)) × (length (now again) ≡ rawCodewords (ver .0)) × (length (now «data») ≡ dataCodewords (ver .0) (levelOf ecl)) ⌝ }
+    ensures { λ r. ⌜ r ≡ same (now (all .entry)) (allWords (ver .0) (levelOf ecl) (now («data» .entry))) ⌝ }
+{
+    blocks::add_ecc_and_interleave(ver, ecl, data, again);
+    equal(all, again)
+}
+
+// Whether the function modules of work stand in grid, and what was read into all are the codewords of data, and remainder
+// modules of 0. The codewords of data are made in work.
+fn is_drawn(
     grid: &[u8],
     ver: Version,
     ecl: QrCodeEcc,
-    mask: Mask,
     data: &[u8],
-    all: &mut [u8],
+    all: &[u8],
     work: &mut [u8],
 ) -> bool
-    requires { ⌜ Square (now grid) (side (ver .0)) ⌝ }
-    requires { ⌜ Square (now work) (side (ver .0)) ⌝ }
-    requires { ⌜ IsVersion ver × IsMask mask × (length (now all) ≡ rawCodewords (ver .0)) × (length (now «data») ≡ dataCodewords (ver .0) (levelOf ecl)) × Worked (ver .0) (now work) ⌝ }
-    ensures { λ r. ⌜ r ≡ same (now (grid .entry)) (gridOf (ver .0) (levelOf ecl) (mask .0) (content (ver .0) (allWords (ver .0) (levelOf ecl) (now («data» .entry))))) ⌝ }
+    requires { ⌜ (length (now grid) ≡ length (now work)) × Square (now work) (side (ver .0)) ⌝ }
+    requires { ⌜ IsVersion ver × (length (now all) ≡ rawCodewords (ver .0) + 1) × (length (now «data») ≡ dataCodewords (ver .0) (levelOf ecl)) ⌝ }
+    ensures { λ r. ⌜ r ≡ agreeTo (length (now (work .entry))) (now (grid .entry)) (now (work .entry)) && same (now (all .entry)) (allWords (ver .0) (levelOf ecl) (now («data» .entry)) ++ (0 ∷ [])) ⌝ }
 {
-    blocks::add_ecc_and_interleave(ver, ecl, data, all);
-    modules::redraw_label(work, ver, ecl, mask, all);
-    equal(grid, work)
+    if !modules::same_functions(grid, work) {
+        return false;
+    }
+    let raw = all.len() - 1;
+    if all[raw] != 0 {
+        return false;
+    }
+    same_words(ver, ecl, data, &all[0..raw], &mut work[0..raw])
 }
 
 // Parses data codewords strictly, and writes text and records where there is room.
@@ -168,12 +185,12 @@ fn read_words(
 ) -> Outcome
     requires { ⌜ Square (now grid) (side (ver .0)) ⌝ }
     requires { ⌜ Square (now work) (side (ver .0)) ⌝ }
-    requires { ⌜ IsVersion ver × IsMask mask × (length (now all) ≡ rawCodewords (ver .0)) × (length (now «data») ≡ dataCodewords (ver .0) (levelOf ecl)) ⌝ }
+    requires { ⌜ IsVersion ver × IsMask mask × (now all ≡ replicate (rawCodewords (ver .0) + 1) 0) × (length (now «data») ≡ dataCodewords (ver .0) (levelOf ecl)) ⌝ }
     requires { ⌜ (levelOf ecl ≡ readLevel (side (ver .0)) (now grid)) × (mask .0 ≡ readMask (side (ver .0)) (now grid)) × Small (ver .0) (now grid) ⌝ }
     ensures { λ r. ⌜ Looks (now (grid .entry)) (now (text .entry)) (now (records .entry)) r (now (text .exit)) (now (records .exit)) ⌝ }
 {
     read_data(grid, ver, ecl, mask, work, all, data);
-    if !draws_again(grid, ver, ecl, mask, data, all, work) {
+    if !is_drawn(grid, ver, ecl, data, all, work) {
         return Outcome::Refused(Refusal::NoLabel);
     }
     tell(data, ver, ecl, mask, text, records)
@@ -196,7 +213,7 @@ fn read_square(
     let mask = types::mask_at(modules::read_mask(grid, ver));
     let raw = capacity::get_num_raw_data_modules(ver) / 8;
     let len = capacity::get_num_data_codewords(ver, ecl);
-    let mut all: [u8; 3706] = [0; 3706];
+    let mut all: [u8; 3707] = [0; 3707];
     let mut data: [u8; 2956] = [0; 2956];
     read_words(
         grid,
@@ -206,7 +223,7 @@ fn read_square(
         text,
         records,
         work,
-        &mut all[0..raw],
+        &mut all[0..raw + 1],
         &mut data[0..len],
     )
 }

@@ -25,7 +25,10 @@ shared-slice-read-if1-2 : tie.Need-shared-slice-read-if1-2 Inv-loop μ-loop
 shared-slice-read-if1-2 c = search needs
 
 returns : tie.Need-returns Inv-loop μ-loop
-returns c = search (same-off, needs)
+returns c =
+    let turn = c .before .before .before .before in
+    let start = turn .before in
+    same-off (start .args .a .now) (start .args .b .now) (turn .loop .inv .2) (turn .loop .i) (turn .loop .inv .0) (search needs) (c .if1 .taken)
 
 add-i : tie.Need-add-i Inv-loop μ-loop
 add-i c = search needs
@@ -34,7 +37,10 @@ loop-less : tie.Need-loop-less Inv-loop μ-loop
 loop-less c = search needs
 
 loop-again : tie.Need-loop-again Inv-loop μ-loop
-loop-again c = search (same-next, needs)
+loop-again c =
+    let turn = c .before .before .before .before in
+    let start = turn .before in
+    (same-next (start .args .a .now) (start .args .b .now) (turn .loop .inv .2) (turn .loop .i) (turn .loop .inv .0) (search needs) (c .if1 .left), search needs, turn .loop .inv .2)
 
 returns-2 : tie.Need-returns-2 Inv-loop μ-loop
 returns-2 c = search (same-end, needs)

@@ -24,6 +24,9 @@ get-num-raw-data-modules-requires c κs = search needs
 get-num-data-codewords-requires : tie.Need-get-num-data-codewords-requires
 get-num-data-codewords-requires c κs = search needs
 
+add-read-words : tie.Need-add-read-words
+add-read-words c = search needs
+
 sub-read-words : tie.Need-sub-read-words
 sub-read-words c = search needs
 
@@ -59,7 +62,7 @@ read-words-requires c κs =
           (
             known .0,
             omega (arith, mask .ensures, number .ensures .1),
-            raw-part (ver .0) _ _ (raw .ensures) (known .0 .0) (known .0 .1) (lit≤ tt),
+            raw-part (ver .0) _ (raw .ensures) (known .0 .0) (known .0 .1),
             data-part (ver .0) _ (level .result) _ (long .ensures) (known .0 .0) (known .0 .1) (lit≤ tt),
           ),
           (level .ensures, mask .ensures ∙ number .ensures .0, known .1),
@@ -88,6 +91,7 @@ read-square-spec =
     mask-at-requires
     get-num-raw-data-modules-requires
     get-num-data-codewords-requires
+    add-read-words
     sub-read-words
     part-all-start
     part-all-end

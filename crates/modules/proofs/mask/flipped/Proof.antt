@@ -1,4 +1,4 @@
--- `flipped` turns a data module.
+-- `flipped` inverted a data module.
 -- Assumes nothing.
 use borrow.Author.Tests.{lt-ltb, le-ltb}
 use Rattle.modules.proofs.mask.flipped.Statement.{statement}

@@ -5,12 +5,12 @@ use mathlib.Core.Path.{_≡_}
 use borrow.Author.Needs.{needs}
 use lib.ListN.{length, getD}
 use Rattle.laws.specs.Each.{eachDone, each-start, each-next, each-end}
-use Rattle.modules.specs.MaskRows.{turned}
+use Rattle.modules.specs.MaskRows.{inverted}
 use Rattle.modules.proofs.mask.mask_band.Statement.{statement}
 use Rattle.modules.proofs.mask.mask_band.Tie as tie
 
 abbrev Inv-loop : tie.InvT-loop
-Inv-loop grid₀ rows k₀ k-end grid k = (grid ≡ eachDone k (λ i v. turned (getD rows i 0) v) grid₀) × (k ≤ k-end) × (length grid ≡ k-end)
+Inv-loop grid₀ rows k₀ k-end grid k = (grid ≡ eachDone k (λ i v. inverted (getD rows i 0) v) grid₀) × (k ≤ k-end) × (length grid ≡ k-end)
 
 abbrev μ-loop : tie.MeasureT-loop
 μ-loop grid₀ rows k₀ k-end grid k = k-end - k
