@@ -8,8 +8,11 @@ pub mod Cores
 pub mod Frame
 pub mod Squares
 pub mod Whole
+pub mod Joined
 pub mod Packs
 pub mod Rows
 pub mod Masks
 pub mod Masked
 pub mod Stored
+pub mod OneWord
+pub mod Unique

@@ -88,10 +88,6 @@ sixteen : (x v a : ℕ) → a ≡ 60 → x * 2 ^ 64 + v * 16 ≡ (x * 2 ^ a + v)
 sixteen x v a e = rw e (omega arith)
 
 -- the words of a framed line: the first has 60 of its modules
-pub packed-one : (f : ℕ → ℕ) (n : ℕ) → join3 (value (from 0 n f) * 16) 0 0 ≡ value (frame (tabulate n f))
-unfolding join3
-packed-one f n = is ((0 * 2 ^ 64 + 0) * 2 ^ 64 + value (from 0 n f) * 16) (value (from 0 n f) * 16) (omega arith) ∙ sym (value-frame (tabulate n f))
-
 packed2 : (f : ℕ → ℕ) (a n : ℕ) → a ≡ 60 → join3 (value (from 0 a f) * 16) (value (from a n f)) 0 ≡ value (frame (tabulate (a + n) f))
 unfolding join3
 packed2 f a n e =
@@ -117,10 +113,6 @@ pub packed-three : (f : ℕ → ℕ) (s : ℕ) → 124 ≤ s
 packed-three f s h = packed3 f 60 64 (s - 124) refl refl ∙ ap (λ (n : ℕ). value (frame (tabulate n f))) (is (60 + (64 + (s - 124))) s (omega arith))
 
 -- masks
-pub mask-one : (k : ℕ) → join3 (low k) 0 0 ≡ low k
-unfolding join3
-mask-one k = omega arith
-
 pub mask-two : (k : ℕ) → 64 ≤ k → join3 18446744073709551615 (low (k - 64)) 0 ≡ low k
 unfolding join3
 mask-two k h = is ((0 * 2 ^ 64 + low (k - 64)) * 2 ^ 64 + 18446744073709551615) (low (k - 64) * 2 ^ 64 + 18446744073709551615) (omega arith)

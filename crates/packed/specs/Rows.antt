@@ -20,6 +20,16 @@ use Rattle.packed.specs.Cores.{four-modules}
 use Rattle.packed.specs.Frame.{frame, lineOf, Framed, framed, line-of-frame}
 use Rattle.packed.specs.Squares.{squaresOf, squares-rows}
 
+-- what the rows of a grid come to: their cost, the squares between them, their dark modules
+abbrev pub RowSums : ℕ → List ℕ → ℕ → ℕ → ℕ → Type 0
+RowSums s g cost same dark =
+    (cost ≡ sum (tabulate s (λ y. lineCost s (row s (colours g) y)))) × (same ≡ sum (tabulate (s - 1) (squares s (colours g)))) × (dark ≡ sum (colours g))
+    × (cost ≤ 6960 * s) × (same ≤ 192 * s) × (dark ≤ 192 * s)
+
+-- what its columns cost
+abbrev pub columnSum : ℕ → List ℕ → ℕ
+columnSum s g = sum (tabulate s (λ x. lineCost s (column s (colours g) x)))
+
 -- ---- one line
 
 colour-lt : (s : ℕ) (g : List ℕ) (x y : ℕ) → moduleOf s (colours g) x y < 2

@@ -146,7 +146,7 @@ module _ (s k : ℕ) (g ws us vs : List ℕ) (a b c d e f : ℕ) (first : us ≡
 unfoldable pub patched : ℕ → ℕ → ℕ
 patched v d = v - v / 4096 % 2 * 4096 + d * 4096
 
-pub words-patched : (n a d : ℕ) → n * 2 ^ 64 + (a - a / 4096 % 2 * 4096 + d * 4096) ≡ patched (n * 2 ^ 64 + a) d
+pub words-patched : (n a d : ℕ) → n * 2 ^ 64 + patched a d ≡ patched (n * 2 ^ 64 + a) d
 unfolding patched
 words-patched n a d = omega arith
 
