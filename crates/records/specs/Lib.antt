@@ -1,4 +1,5 @@
 pub mod Records
 pub mod Encoded
 pub mod Reading
+pub mod Within
 pub mod Unique

@@ -57,7 +57,7 @@ count-label r v l m n k e = sym (ap count e)
 pub count-refused : (r : Outcome) (f : Refuses) → r ≡ Refused f → 0 ≡ count r
 count-refused r f e = sym (ap count e)
 
-count-none : (r : Outcome) (e : Refusal) → answerOf r ≡ unread e → count r ≡ 0
+pub count-none : (r : Outcome) (e : Refusal) → answerOf r ≡ unread e → count r ≡ 0
 count-none (Refused f) e q = refl
 count-none (Labels v l m n k) e q = absurd (let z : _≡_ {A = ℕ} 0 1 = cc in omega arith)
 
@@ -96,18 +96,23 @@ first-parts n ns ps rest m h e k q = sym (is-tabulate (partFrom 0 0 0 0) ps m (p
 -- ---- a label, by how much room there is
 
 module _ (a : Label) (text : List ℕ) (ps : List Part) (c : List ℕ) where
-  text-short : ltb (length text) (length (characters (a .segments))) ≡ true → labelled a text ps c ≡ refuseTo (refusal 15 (length (characters (a .segments))) 0) text ps c
+  pub text-short : ltb (length text) (length (characters (a .segments))) ≡ true → labelled a text ps c ≡ refuseTo (refusal 15 (length (characters (a .segments))) 0) text ps c
   unfolding labelled
   text-short e = rw e
 
   module _ (e : ltb (length text) (length (characters (a .segments))) ≡ false) where
-    records-short : ltb (length ps) (length (a .segments)) ≡ true → labelled a text ps c ≡ refuseTo (refusal 16 (length (a .segments)) 0) text ps c
+    pub records-short : ltb (length ps) (length (a .segments)) ≡ true → labelled a text ps c ≡ refuseTo (refusal 16 (length (a .segments)) 0) text ps c
     unfolding labelled
     records-short f = rw (e, f)
 
-    all-fit : ltb (length ps) (length (a .segments)) ≡ false → labelled a text ps c ≡ written a text ps c
+    pub all-fit : ltb (length ps) (length (a .segments)) ≡ false → labelled a text ps c ≡ written a text ps c
     unfolding labelled
     all-fit f = rw (e, f)
+
+-- a label is written with as many records as it has segments
+pub count-written : (r : Outcome) (a : Label) (text o : List ℕ) (ps qs : List Part) (c z : List ℕ) → readOf r o qs z ≡ written a text ps c → count r ≡ length (a .segments)
+unfolding written
+count-written r a text o ps qs c z q = count-some r (a .version) (a .level) (a .mask) (length (a .segments)) (length (characters (a .segments))) (ap (λ (y : Read). y .answer) q)
 
 -- ---- the relation
 
@@ -144,7 +149,7 @@ module _ (g : List ℕ) (s : ℕ) (text : List ℕ) (rs : List Record) (scratch 
     unfolding written
     written-to h q =
         let m : ℕ = length (a .segments) in
-        let many : count r ≡ m = count-some r (a .version) (a .level) (a .mask) m (length (characters (a .segments))) (ap (λ (y : Read). y .answer) q) in
+        let many : count r ≡ m = count-written r a text o ps (taken ns) c z q in
         let same : after ≡ recordsFrom 0 (a .segments) ++ drop m (parts rs) =
         ap (λ (n : ℕ). parts (packed n ns rs)) many ∙ packed-parts m ns rs (omega arith)
         ∙ ap (λ (l : List Part). l ++ drop m (parts rs))

@@ -5,6 +5,11 @@ ghost use lib.ListN.{length};
 ghost use Rattle.standard.specs.Sizes.{side};
 ghost use Rattle.laws.specs.Grid.{Square};
 ghost use Rattle.types.specs.Numbers.{IsVersion, IsMask};
+
+mod codewords; // the codewords of a case
+mod lines; // the lines of the list
+
+use lines::Line;
 use types::Mask;
 use types::NewMask;
 use types::NewVersion;
@@ -19,12 +24,6 @@ struct Tally {
     differ: u64,
     lost: u64,
     wrong: u64,
-}
-
-// What reading a line gives: its length, or that the input is at its end.
-enum Line {
-    Read(usize),
-    End,
 }
 
 fn main() {
@@ -55,7 +54,7 @@ fn replay() -> Tally {
     let mut turns: u64 = 100_000;
     let mut line = [0u8; 32768];
     while 0 < turns {
-        let l = read_line(&mut line);
+        let l = lines::read_line(&mut line);
         match l {
             Line::Read(n) => {
                 t = one(t, line, n);
@@ -69,30 +68,6 @@ fn replay() -> Tally {
     t
 }
 
-// Reads a line without its end. A line that is too long is read as several.
-fn read_line(line: &mut [u8; 32768]) -> Line {
-    let mut n: usize = 0;
-    while n < 32768 {
-        let c = next();
-        if c == 0 {
-            return Line::End;
-        }
-        if c == b'\n' {
-            return Line::Read(n);
-        }
-        line[n] = c;
-        n += 1;
-    }
-    Line::Read(n)
-}
-
-// The next character; 0 at the end of the input.
-fn next() -> u8 {
-    let mut one = [0u8; 1];
-    let got = io::read_full(0, &mut one);
-    one[0]
-}
-
 // One line, which has n characters. One that says no version or no mask differs.
 fn one(t: Tally, line: [u8; 32768], n: usize) -> Tally {
     if n < 9 {
@@ -101,14 +76,14 @@ fn one(t: Tally, line: [u8; 32768], n: usize) -> Tally {
     if 32768 < n {
         return told_of(t, line[0], false, true, true);
     }
-    let v = Version::new(digit(line[2]) * 10 + digit(line[3]));
+    let v = Version::new(lines::digit(line[2]) * 10 + lines::digit(line[3]));
     match v {
         NewVersion::Some(ver) => masked(
             t,
             line[0],
             ver,
-            level(line[5]),
-            digit(line[7]),
+            lines::level(line[5]),
+            lines::digit(line[7]),
             &line[9..n],
         ),
         NewVersion::None => told_of(t, line[0], false, true, true),
@@ -123,23 +98,6 @@ fn masked(t: Tally, kind: u8, ver: Version, ecl: QrCodeEcc, m: u8, want: &[u8]) 
     match n {
         NewMask::Some(mask) => case(t, kind, ver, ecl, mask, want),
         NewMask::None => told_of(t, kind, false, true, true),
-    }
-}
-
-// The value of a digit.
-fn digit(c: u8) -> u8
-    ensures { λ r. ⌜ r ≤ 9 ⌝ }
-{
-    c % 16 % 10
-}
-
-// The level of a digit.
-fn level(c: u8) -> QrCodeEcc {
-    match c {
-        b'0' => QrCodeEcc::Low,
-        b'1' => QrCodeEcc::Medium,
-        b'2' => QrCodeEcc::Quartile,
-        _ => QrCodeEcc::High,
     }
 }
 
@@ -186,7 +144,10 @@ fn compared(
     requires { ⌜ Square (now work) (side (ver .0)) ⌝ }
     requires { ⌜ (length (now words) ≤ 4096) × (length (now back) ≤ 4096) ⌝ }
 {
-    fill(words, seed(ver.value(), ecl.ordinal(), mask.value()));
+    codewords::fill(
+        words,
+        codewords::seed(ver.value(), ecl.ordinal(), mask.value()),
+    );
     drawn(t, kind, ver, ecl, mask, want, grid, work, words, back)
 }
 
@@ -292,32 +253,4 @@ fn counted(n: u64, counts: bool) -> u64 {
         return std::num::wrapping_add_u64(n, 1);
     }
     n
-}
-
-// Where the pseudo-random numbers of a case start.
-fn seed(v: u8, l: usize, m: u8) -> u64
-    requires { ⌜ l ≤ 3 ⌝ }
-    ensures { λ r. ⌜ r < 2147483648 ⌝ }
-{
-    wide(v) * 32 + l as u64 * 8 + wide(m)
-}
-
-// Fills in pseudo-random codewords.
-fn fill(words: &mut [u8], seed: u64)
-    requires { ⌜ seed < 2147483648 ⌝ }
-{
-    let mut x = seed;
-    let mut i = 0;
-    while i < words.len() {
-        x = (x * 1103515245 + 12345) % 2147483648;
-        words[i] = (x / 65536 % 256) as u8;
-        i += 1;
-    }
-}
-
-// A byte as a wider number.
-fn wide(b: u8) -> u64
-    ensures { λ r. ⌜ r < 256 ⌝ }
-{
-    b as u64
 }

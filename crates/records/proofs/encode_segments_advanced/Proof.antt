@@ -56,7 +56,7 @@ use Rattle.encoder.proofs.Outcome.Laws as O′
 use Rattle.records.specs.Encoded.{early, refused-early}
 use Rattle.records.specs.declared.Record.{Record}
 use Rattle.records.specs.Records.{partOf, parts, unpacked, unpacked-parts}
-use Rattle.records.proofs.Local.{word, Words, at-block, Kept, zeros-typed, zeros-in, words-room, lends, back, shares-out, shut, gives-up, big-lit}
+use Rattle.records.proofs.Local.{word, Local, at-block, Kept, zeros-typed, zeros-in, local-room, lends, back, shares-out, shut, gives-up, big-lit}
 use Rattle.records.proofs.Record as R
 use Rattle.records.proofs.unpack as unpack
 use Rattle.records.proofs.unpack.Symbol as unpack-def
@@ -313,12 +313,12 @@ module _ {M : Type 1} (𝓤 : URA M) (H : Heap 𝓤) (A : Atoms 𝓤) (W : Given
           assigns ! (bin ! (load ! (from ! (stop !)) (look ! 50 refl)) (lit ! tt) tt) (from ! (stop !)) (init ! 44 refl (tt, tt)) $
           rewrite ! 44 (λ (c : Bool). ‵ (fat fullShare tyBool l₁₃ 0 (vbool c))) (le-leb n 128 few) refl $
           first ! $ branches ! (load ! (from ! (stop !)) (look ! 44 refl)) (λ _.
-          assigns ! (rep ! 512 (lit ! tt)) (from ! (stop !)) (init ! 48 refl (zeros-typed 𝓤 H A W 512)) $ move ! (48 ∷ []) $ use1 W (‵ (Words 512 (zs 512) l₁₁)) (zeros-in 𝓤 H A W 512 l₁₁) $
+          assigns ! (rep ! 512 (lit ! tt)) (from ! (stop !)) (init ! 48 refl (zeros-typed 𝓤 H A W w64 512)) $ move ! (48 ∷ []) $ use1 W (‵ (Local u64 512 (zs 512) l₁₁)) (zeros-in 𝓤 H A W w64 512 l₁₁) $
           assigns ! (addr ! (from ! (stop !))) (from ! (stop !)) (init ! 41 refl (tt, tt)) $
           assigns ! (agg ! (and-then ! (load ! (from ! (stop !)) (look ! 41 refl)) (and-then ! (lit ! tt) (no-more !)))) (from ! (stop !)) (init ! 39 refl (tt, (tt, (record { fits = lit< tt }, tt)))) $
           -- [numbers; Ot; Os; Og; Oc; κ₀; κ₁; κ₂; κ₃; the locals]: the numbers are lent for a lifetime ν
           lft-new ! tt (λ ν. move ! (1 ∷ []) $
-          use1 W (later (some (λ (δ : GName). ‵ (Lent 512 ν δ l₁₁) ⊛ ‵ (flent (ν ∷ []) (Held u64 512 l₁₁ 0 δ))))) (lends 𝓤 H A W 512 room512 (zs 512) (length-replicate {A = ℕ} 512 0) (named 1) (ν ∷ []) l₁₁) $ await ! tt $ pick ! (λ δ. split ! $
+          use1 W (later (some (λ (δ : GName). ‵ (Lent 512 ν δ l₁₁) ⊛ ‵ (flent (ν ∷ []) (Held u64 512 l₁₁ 0 δ))))) (lends 𝓤 H A W u64 512 tt room512 (zs 512) (length-replicate {A = ℕ} 512 0) (named 1) (ν ∷ []) l₁₁) $ await ! tt $ pick ! (λ δ. split ! $
           move ! (4 ∷ []) $ use1 W (‵ Os ⊛ ‵ Os) (shr-slice-copy 𝓤 H A W (named 1) κ₁ R.the-row .twice s (sv ∷ [])) $ split ! $ move ! (9 ∷ 4 ∷ []) $ join ! $ move ! (3 ∷ 0 ∷ []) $ join ! $ move ! (1 ∷ 0 ∷ []) $ join ! $
           use1 W (raw (Unpack 𝓤 H A mem run .pre (to-unpack 512 ν δ l₁₁))) (goes-unpack 512 ν δ l₁₁ (omega (arith, length-replicate {A = ℕ} 512 0))) $
           -- [asked; Os′; lender; Ot; Og; Oc; κ₀; κ₂; κ₃; the locals]: `unpack`
@@ -328,7 +328,7 @@ module _ {M : Type 1} (𝓤 : URA M) (H : Heap 𝓤) (A : Atoms 𝓤) (W : Given
           split ! $ move ! (1 ∷ []) $ heard ! (ws .1 .0 ≡ unpacked n (s .now) (zs 512)) (λ e. fsplit ! $ drop ! $ fsplit ! $ fsplit ! $ move ! (1 ∷ []) $ feqL ! (λ same.
           move ! (2 ∷ []) $ split ! $ move ! (1 ∷ []) $ peeks ! Nothing (Is Nothing) (shows 𝓤 H A Nothing) u (y ∷ []) (λ iu. land ! (from ! (stop !)) (init ! 46 refl (nothing-lawful 𝓤 H A W .typed u _ iu .0)) $ drop ! $
           split ! $ move ! (1 ∷ []) $ split ! $ lft-end ! tt $ move ! (0 ∷ 6 ∷ 3 ∷ []) $
-          use3 W (later (‵ (Words 512 (ws .1 .0) l₁₁))) (back 𝓤 H A W 512 (ν ∷ []) δ (ws .1 .0) l₁₁) $ await ! tt $ move ! (1 ∷ []) $ drop ! $ move ! (2 ∷ []) $ drop ! $
+          use3 W (later (‵ (Local u64 512 (ws .1 .0) l₁₁))) (back 𝓤 H A W u64 512 (ν ∷ []) δ (ws .1 .0) l₁₁) $ await ! tt $ move ! (1 ∷ []) $ drop ! $ move ! (2 ∷ []) $ drop ! $
           assigns ! (addr ! (from ! (stop !))) (from ! (stop !)) (init ! 37 refl (tt, tt)) $
           assigns ! (agg ! (and-then ! (load ! (from ! (stop !)) (look ! 37 refl)) (and-then ! (lit ! tt) (no-more !)))) (from ! (stop !)) (init ! 35 refl (tt, (tt, (record { fits = lit< tt }, tt)))) $
           assigns ! (addr ! (from ! (fld ! refl (hop ! (look-in ! 54 (sub ! 0 refl (whole !))) (stop !))))) (from ! (stop !)) (init ! 33 refl (tt, tt)) $
@@ -337,7 +337,7 @@ module _ {M : Type 1} (𝓤 : URA M) (H : Heap 𝓤) (A : Atoms 𝓤) (W : Given
           assigns ! (agg ! (and-then ! (load ! (from ! (stop !)) (look ! 29 refl)) (and-then ! (load ! (from ! (fld ! refl (stop !))) (look-in ! 52 (sub ! 1 refl (whole !)))) (no-more !)))) (from ! (stop !)) (init ! 27 refl (tt, (tt, (record { fits = ic .0 .1 .0 }, tt)))) $
           -- [numbers; κ₁; Os′; Ot; Og; Oc; κ₀; κ₂; κ₃; the locals]: the numbers are shared for a lifetime μ
           lft-new ! tt (λ μ. move ! (1 ∷ []) $
-          use1 W (later (some (λ (δ : GName). ‵ (Shared 512 μ δ l₁₁ (ws .1 .0)) ⊛ ‵ (flent (μ ∷ []) (Kept 512 (ws .1 .0) l₁₁))))) (shares-out 𝓤 H A W 512 room512 (ws .1 .0) (same ∙ length-replicate {A = ℕ} 512 0) (named 1) (μ ∷ []) l₁₁) $ await ! tt $ pick ! (λ ε. split ! $
+          use1 W (later (some (λ (δ : GName). ‵ (Shared 512 μ δ l₁₁ (ws .1 .0)) ⊛ ‵ (flent (μ ∷ []) (Kept u64 512 (ws .1 .0) l₁₁))))) (shares-out 𝓤 H A W u64 512 tt room512 (ws .1 .0) (same ∙ length-replicate {A = ℕ} 512 0) (named 1) (μ ∷ []) l₁₁) $ await ! tt $ pick ! (λ ε. split ! $
           move ! (5 ∷ []) $ use1 W (‵ Ot ⊛ ‵ Ot) (shr-slice-copy 𝓤 H A W (named 0) κ₀ u8 .twice t (tv ∷ [])) $ split ! $ move ! (7 ∷ 8 ∷ []) $ join ! $ move ! (3 ∷ 0 ∷ []) $ join ! $ move ! (1 ∷ 0 ∷ []) $ join ! $ move ! (8 ∷ 0 ∷ []) $ join ! $ move ! (7 ∷ 0 ∷ []) $ join ! $ move ! (3 ∷ 0 ∷ []) $ join ! $ move ! (5 ∷ 0 ∷ []) $ join ! $
           use1 W (raw (Core 𝓤 H A mem run .pre (to-core 512 μ ε l₁₁ (ws .1 .0)))) (goes-core 512 μ ε l₁₁ (ws .1 .0) (omega (arith, same, length-replicate {A = ℕ} 512 0)) fits) $
           -- [asked; Ot′; lender; κ₁; Os′; the locals]: `encode_numbers`
@@ -348,7 +348,7 @@ module _ {M : Type 1} (𝓤 : URA M) (H : Heap 𝓤) (A : Atoms 𝓤) (W : Given
           fsplit ! $ fsplit ! $ move ! (1 ∷ []) $ feqL ! (λ lg. move ! (1 ∷ []) $ fsplit ! $ fsplit ! $ move ! (1 ∷ []) $ feqL ! (λ lc.
           move ! (3 ∷ []) $ split ! $ move ! (1 ∷ []) $ peeks ! O.the-row (Is O.the-row) (shows 𝓤 H A O.the-row) r (z ∷ []) (λ ir. land ! (from ! (stop !)) (init ! 70 refl (EL.lawful O.the-type O′.the-laws 𝓤 H A W tt .typed r _ ir .0)) $
           move ! (1 ∷ []) $ split ! $ move ! (1 ∷ []) $ split ! $ move ! (1 ∷ []) $ split ! $ move ! (1 ∷ []) $ split ! $
-          move ! (3 ∷ []) $ lft-end ! tt $ move ! (0 ∷ 10 ∷ []) $ use2 W (later (‵ (Words 512 (ws .1 .0) l₁₁))) (shut 𝓤 H A W 512 (μ ∷ []) (ws .1 .0) l₁₁) $ await ! tt $ use1 W (‵ (froom (tyArray word 512) l₁₁ 0)) (words-room 𝓤 H A W 512 (ws .1 .0) l₁₁) $
+          move ! (3 ∷ []) $ lft-end ! tt $ move ! (0 ∷ 10 ∷ []) $ use2 W (later (‵ (Local u64 512 (ws .1 .0) l₁₁))) (shut 𝓤 H A W u64 512 (μ ∷ []) (ws .1 .0) l₁₁) $ await ! tt $ use1 W (‵ (froom (tyArray word 512) l₁₁ 0)) (local-room 𝓤 H A W u64 512 (ws .1 .0) l₁₁) $
           -- [; the locals]
           returns-within ! Post refl (look ! 73 refl) $
           forget ! 73 refl $ forget ! 71 refl $ forget ! 69 refl $ forget ! 67 refl $ forget ! 65 refl $ forget ! 63 refl $ forget ! 61 refl $ forget ! 59 refl $ forget ! 57 refl $ forget ! 55 refl $ forget ! 53 refl $ forget ! 48 refl $ forget ! 46 refl $ forget ! 44 refl $ forget ! 42 refl $ forget ! 40 refl $ forget ! 38 refl $ forget ! 36 refl $ forget ! 34 refl $ forget ! 32 refl $ forget ! 30 refl $
@@ -364,12 +364,12 @@ module _ {M : Type 1} (𝓤 : URA M) (H : Heap 𝓤) (A : Atoms 𝓤) (W : Given
           assigns ! (bin ! (load ! (from ! (stop !)) (look ! 50 refl)) (big-lit ! (record { fits = lit< tt })) tt) (from ! (stop !)) (init ! 44 refl (tt, tt)) $
           rewrite ! 44 (λ (c : Bool). ‵ (fat fullShare tyBool l₁₃ 0 (vbool c))) (le-leb n 2048 few) refl $
           first ! $ branches ! (load ! (from ! (stop !)) (look ! 44 refl)) (λ _.
-          assigns ! (rep ! 8192 (lit ! tt)) (from ! (stop !)) (init ! 46 refl (zeros-typed 𝓤 H A W 8192)) $ move ! (46 ∷ []) $ use1 W (‵ (Words 8192 (zs 8192) l₁₂)) (zeros-in 𝓤 H A W 8192 l₁₂) $
+          assigns ! (rep ! 8192 (lit ! tt)) (from ! (stop !)) (init ! 46 refl (zeros-typed 𝓤 H A W w64 8192)) $ move ! (46 ∷ []) $ use1 W (‵ (Local u64 8192 (zs 8192) l₁₂)) (zeros-in 𝓤 H A W w64 8192 l₁₂) $
           assigns ! (addr ! (from ! (stop !))) (from ! (stop !)) (init ! 23 refl (tt, tt)) $
           assigns ! (agg ! (and-then ! (load ! (from ! (stop !)) (look ! 23 refl)) (and-then ! (big-lit ! (record { fits = lit< tt })) (no-more !)))) (from ! (stop !)) (init ! 21 refl (tt, (tt, (record { fits = lit< tt }, tt)))) $
           -- [numbers; Ot; Os; Og; Oc; κ₀; κ₁; κ₂; κ₃; the locals]: the numbers are lent for a lifetime ν
           lft-new ! tt (λ ν. move ! (1 ∷ []) $
-          use1 W (later (some (λ (δ : GName). ‵ (Lent 8192 ν δ l₁₂) ⊛ ‵ (flent (ν ∷ []) (Held u64 8192 l₁₂ 0 δ))))) (lends 𝓤 H A W 8192 room8192 (zs 8192) (length-replicate {A = ℕ} 8192 0) (named 1) (ν ∷ []) l₁₂) $ await ! tt $ pick ! (λ δ. split ! $
+          use1 W (later (some (λ (δ : GName). ‵ (Lent 8192 ν δ l₁₂) ⊛ ‵ (flent (ν ∷ []) (Held u64 8192 l₁₂ 0 δ))))) (lends 𝓤 H A W u64 8192 tt room8192 (zs 8192) (length-replicate {A = ℕ} 8192 0) (named 1) (ν ∷ []) l₁₂) $ await ! tt $ pick ! (λ δ. split ! $
           move ! (4 ∷ []) $ use1 W (‵ Os ⊛ ‵ Os) (shr-slice-copy 𝓤 H A W (named 1) κ₁ R.the-row .twice s (sv ∷ [])) $ split ! $ move ! (9 ∷ 4 ∷ []) $ join ! $ move ! (3 ∷ 0 ∷ []) $ join ! $ move ! (1 ∷ 0 ∷ []) $ join ! $
           use1 W (raw (Unpack 𝓤 H A mem run .pre (to-unpack 8192 ν δ l₁₂))) (goes-unpack 8192 ν δ l₁₂ (omega (arith, length-replicate {A = ℕ} 8192 0))) $
           -- [asked; Os′; lender; Ot; Og; Oc; κ₀; κ₂; κ₃; the locals]: `unpack`
@@ -379,7 +379,7 @@ module _ {M : Type 1} (𝓤 : URA M) (H : Heap 𝓤) (A : Atoms 𝓤) (W : Given
           split ! $ move ! (1 ∷ []) $ heard ! (ws .1 .0 ≡ unpacked n (s .now) (zs 8192)) (λ e. fsplit ! $ drop ! $ fsplit ! $ fsplit ! $ move ! (1 ∷ []) $ feqL ! (λ same.
           move ! (2 ∷ []) $ split ! $ move ! (1 ∷ []) $ peeks ! Nothing (Is Nothing) (shows 𝓤 H A Nothing) u (y ∷ []) (λ iu. land ! (from ! (stop !)) (init ! 28 refl (nothing-lawful 𝓤 H A W .typed u _ iu .0)) $ drop ! $
           split ! $ move ! (1 ∷ []) $ split ! $ lft-end ! tt $ move ! (0 ∷ 6 ∷ 3 ∷ []) $
-          use3 W (later (‵ (Words 8192 (ws .1 .0) l₁₂))) (back 𝓤 H A W 8192 (ν ∷ []) δ (ws .1 .0) l₁₂) $ await ! tt $ move ! (1 ∷ []) $ drop ! $ move ! (2 ∷ []) $ drop ! $
+          use3 W (later (‵ (Local u64 8192 (ws .1 .0) l₁₂))) (back 𝓤 H A W u64 8192 (ν ∷ []) δ (ws .1 .0) l₁₂) $ await ! tt $ move ! (1 ∷ []) $ drop ! $ move ! (2 ∷ []) $ drop ! $
           assigns ! (addr ! (from ! (stop !))) (from ! (stop !)) (init ! 19 refl (tt, tt)) $
           assigns ! (agg ! (and-then ! (load ! (from ! (stop !)) (look ! 19 refl)) (and-then ! (big-lit ! (record { fits = lit< tt })) (no-more !)))) (from ! (stop !)) (init ! 17 refl (tt, (tt, (record { fits = lit< tt }, tt)))) $
           assigns ! (addr ! (from ! (fld ! refl (hop ! (look-in ! 54 (sub ! 0 refl (whole !))) (stop !))))) (from ! (stop !)) (init ! 15 refl (tt, tt)) $
@@ -388,7 +388,7 @@ module _ {M : Type 1} (𝓤 : URA M) (H : Heap 𝓤) (A : Atoms 𝓤) (W : Given
           assigns ! (agg ! (and-then ! (load ! (from ! (stop !)) (look ! 11 refl)) (and-then ! (load ! (from ! (fld ! refl (stop !))) (look-in ! 52 (sub ! 1 refl (whole !)))) (no-more !)))) (from ! (stop !)) (init ! 9 refl (tt, (tt, (record { fits = ic .0 .1 .0 }, tt)))) $
           -- [numbers; κ₁; Os′; Ot; Og; Oc; κ₀; κ₂; κ₃; the locals]: the numbers are shared for a lifetime μ
           lft-new ! tt (λ μ. move ! (1 ∷ []) $
-          use1 W (later (some (λ (δ : GName). ‵ (Shared 8192 μ δ l₁₂ (ws .1 .0)) ⊛ ‵ (flent (μ ∷ []) (Kept 8192 (ws .1 .0) l₁₂))))) (shares-out 𝓤 H A W 8192 room8192 (ws .1 .0) (same ∙ length-replicate {A = ℕ} 8192 0) (named 1) (μ ∷ []) l₁₂) $ await ! tt $ pick ! (λ ε. split ! $
+          use1 W (later (some (λ (δ : GName). ‵ (Shared 8192 μ δ l₁₂ (ws .1 .0)) ⊛ ‵ (flent (μ ∷ []) (Kept u64 8192 (ws .1 .0) l₁₂))))) (shares-out 𝓤 H A W u64 8192 tt room8192 (ws .1 .0) (same ∙ length-replicate {A = ℕ} 8192 0) (named 1) (μ ∷ []) l₁₂) $ await ! tt $ pick ! (λ ε. split ! $
           move ! (5 ∷ []) $ use1 W (‵ Ot ⊛ ‵ Ot) (shr-slice-copy 𝓤 H A W (named 0) κ₀ u8 .twice t (tv ∷ [])) $ split ! $ move ! (7 ∷ 8 ∷ []) $ join ! $ move ! (3 ∷ 0 ∷ []) $ join ! $ move ! (1 ∷ 0 ∷ []) $ join ! $ move ! (8 ∷ 0 ∷ []) $ join ! $ move ! (7 ∷ 0 ∷ []) $ join ! $ move ! (3 ∷ 0 ∷ []) $ join ! $ move ! (5 ∷ 0 ∷ []) $ join ! $
           use1 W (raw (Core 𝓤 H A mem run .pre (to-core 8192 μ ε l₁₂ (ws .1 .0)))) (goes-core 8192 μ ε l₁₂ (ws .1 .0) (omega (arith, same, length-replicate {A = ℕ} 8192 0)) fits) $
           -- [asked; Ot′; lender; κ₁; Os′; the locals]: `encode_numbers`
@@ -399,7 +399,7 @@ module _ {M : Type 1} (𝓤 : URA M) (H : Heap 𝓤) (A : Atoms 𝓤) (W : Given
           fsplit ! $ fsplit ! $ move ! (1 ∷ []) $ feqL ! (λ lg. move ! (1 ∷ []) $ fsplit ! $ fsplit ! $ move ! (1 ∷ []) $ feqL ! (λ lc.
           move ! (3 ∷ []) $ split ! $ move ! (1 ∷ []) $ peeks ! O.the-row (Is O.the-row) (shows 𝓤 H A O.the-row) r (z ∷ []) (λ ir. land ! (from ! (stop !)) (init ! 70 refl (EL.lawful O.the-type O′.the-laws 𝓤 H A W tt .typed r _ ir .0)) $
           move ! (1 ∷ []) $ split ! $ move ! (1 ∷ []) $ split ! $ move ! (1 ∷ []) $ split ! $ move ! (1 ∷ []) $ split ! $
-          move ! (3 ∷ []) $ lft-end ! tt $ move ! (0 ∷ 10 ∷ []) $ use2 W (later (‵ (Words 8192 (ws .1 .0) l₁₂))) (shut 𝓤 H A W 8192 (μ ∷ []) (ws .1 .0) l₁₂) $ await ! tt $ use1 W (‵ (froom (tyArray word 8192) l₁₂ 0)) (words-room 𝓤 H A W 8192 (ws .1 .0) l₁₂) $
+          move ! (3 ∷ []) $ lft-end ! tt $ move ! (0 ∷ 10 ∷ []) $ use2 W (later (‵ (Local u64 8192 (ws .1 .0) l₁₂))) (shut 𝓤 H A W u64 8192 (μ ∷ []) (ws .1 .0) l₁₂) $ await ! tt $ use1 W (‵ (froom (tyArray word 8192) l₁₂ 0)) (local-room 𝓤 H A W u64 8192 (ws .1 .0) l₁₂) $
           -- [; the locals]
           returns-within ! Post refl (look ! 73 refl) $
           forget ! 73 refl $ forget ! 71 refl $ forget ! 69 refl $ forget ! 67 refl $ forget ! 65 refl $ forget ! 63 refl $ forget ! 61 refl $ forget ! 59 refl $ forget ! 57 refl $ forget ! 55 refl $ forget ! 53 refl $ forget ! 48 refl $ forget ! 28 refl $ forget ! 26 refl $ forget ! 24 refl $ forget ! 22 refl $ forget ! 20 refl $ forget ! 18 refl $ forget ! 16 refl $ forget ! 14 refl $ forget ! 12 refl $

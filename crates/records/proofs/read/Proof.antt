@@ -55,7 +55,7 @@ use Rattle.reader.proofs.Outcome.Laws as O′
 use Rattle.records.specs.Reading.{count, ReadsIn, Packed, packs}
 use Rattle.records.specs.declared.Record.{Record}
 use Rattle.records.specs.Records.{parts, packed}
-use Rattle.records.proofs.Local.{word, Words, at-block, Kept, zeros-typed, zeros-in, words-room, lends, back, shares-out, shut, big-lit}
+use Rattle.records.proofs.Local.{word, Local, at-block, Kept, zeros-typed, zeros-in, local-room, lends, back, shares-out, shut, big-lit}
 use Rattle.records.proofs.Record as R
 use Rattle.records.proofs.read_numbers as core
 use Rattle.records.proofs.read_numbers.Symbol as core-def
@@ -285,7 +285,7 @@ module _ {M : Type 1} (𝓤 : URA M) (H : Heap 𝓤) (A : Atoms 𝓤) (W : Given
             assigns ! (bin ! (load ! (from ! (stop !)) (look ! 66 refl)) (lit ! tt) tt) (from ! (stop !)) (init ! 56 refl (tt, tt)) $
             rewrite ! 56 (λ (c : Bool). ‵ (fat fullShare tyBool l₁₁ 0 (vbool c))) (le-leb n 128 few) refl $
             first ! $ branches ! (load ! (from ! (stop !)) (look ! 56 refl)) (λ _.
-            assigns ! (rep ! 512 (lit ! tt)) (from ! (stop !)) (init ! 64 refl (zeros-typed 𝓤 H A W 512)) $ move ! (64 ∷ []) $ use1 W (‵ (Words 512 (zs 512) l₇)) (zeros-in 𝓤 H A W 512 l₇) $
+            assigns ! (rep ! 512 (lit ! tt)) (from ! (stop !)) (init ! 64 refl (zeros-typed 𝓤 H A W w64 512)) $ move ! (64 ∷ []) $ use1 W (‵ (Local u64 512 (zs 512) l₇)) (zeros-in 𝓤 H A W w64 512 l₇) $
             assigns ! (addr ! (from ! (fld ! refl (hop ! (look-in ! 72 (sub ! 0 refl (whole !))) (stop !))))) (from ! (stop !)) (init ! 55 refl (tt, tt)) $
             assigns ! (agg ! (and-then ! (load ! (from ! (stop !)) (look ! 55 refl)) (and-then ! (load ! (from ! (fld ! refl (stop !))) (look-in ! 72 (sub ! 1 refl (whole !)))) (no-more !)))) (from ! (stop !)) (init ! 53 refl (tt, (tt, (record { fits = it .0 .1 .0 }, tt)))) $
             assigns ! (addr ! (from ! (stop !))) (from ! (stop !)) (init ! 51 refl (tt, tt)) $
@@ -294,7 +294,7 @@ module _ {M : Type 1} (𝓤 : URA M) (H : Heap 𝓤) (A : Atoms 𝓤) (W : Given
             assigns ! (agg ! (and-then ! (load ! (from ! (stop !)) (look ! 47 refl)) (and-then ! (load ! (from ! (fld ! refl (stop !))) (look-in ! 68 (sub ! 1 refl (whole !)))) (no-more !)))) (from ! (stop !)) (init ! 45 refl (tt, (tt, (record { fits = ic .0 .1 .0 }, tt)))) $
             -- [numbers; Og; Ot; Os; Oc; κ₀; κ₁; κ₂; κ₃; the locals]: the numbers are lent for a lifetime ν
             lft-new ! tt (λ ν. move ! (1 ∷ []) $
-            use1 W (later (some (λ (δ : GName). ‵ (Lent 512 ν δ l₇) ⊛ ‵ (flent (ν ∷ []) (Held u64 512 l₇ 0 δ))))) (lends 𝓤 H A W 512 room512 (zs 512) (length-replicate {A = ℕ} 512 0) (named 2) (ν ∷ []) l₇) $ await ! tt $ pick ! (λ δ. split ! $
+            use1 W (later (some (λ (δ : GName). ‵ (Lent 512 ν δ l₇) ⊛ ‵ (flent (ν ∷ []) (Held u64 512 l₇ 0 δ))))) (lends 𝓤 H A W u64 512 tt room512 (zs 512) (length-replicate {A = ℕ} 512 0) (named 2) (ν ∷ []) l₇) $ await ! tt $ pick ! (λ δ. split ! $
             move ! (3 ∷ []) $ use1 W (‵ Og ⊛ ‵ Og) (shr-slice-copy 𝓤 H A W (named 0) κ₀ u8 .twice g (gv ∷ [])) $ split ! $ move ! (2 ∷ 7 ∷ []) $ join ! $ move ! (5 ∷ 0 ∷ []) $ join ! $ move ! (1 ∷ 0 ∷ []) $ join ! $ move ! (8 ∷ 0 ∷ []) $ join ! $ move ! (3 ∷ 0 ∷ []) $ join ! $ move ! (5 ∷ 0 ∷ []) $ join ! $ move ! (4 ∷ 0 ∷ []) $ join ! $
             use1 W (raw (Core 𝓤 H A mem run .pre (to-core 512 ν δ l₇))) (goes-core 512 ν δ l₇ (omega (arith, length-replicate {A = ℕ} 512 0)) (is .0 .1 .0)) $
             -- [asked; Og′; lender; Os; κ₂; the locals]: `read_numbers`
@@ -306,7 +306,7 @@ module _ {M : Type 1} (𝓤 : URA M) (H : Heap 𝓤) (A : Atoms 𝓤) (W : Given
             fsplit ! $ fsplit ! $ move ! (1 ∷ []) $ feqL ! (λ same. move ! (1 ∷ []) $ fsplit ! $ fsplit ! $ move ! (1 ∷ []) $ feqL ! (λ lc.
             move ! (4 ∷ []) $ split ! $ move ! (1 ∷ []) $ peeks ! O.the-row (Is O.the-row) (shows 𝓤 H A O.the-row) r (z ∷ []) (λ ir. land ! (from ! (stop !)) (init ! 64 refl (EL.lawful O.the-type O′.the-laws 𝓤 H A W tt .typed r _ ir .0)) $
             move ! (1 ∷ []) $ split ! $ move ! (1 ∷ []) $ split ! $ move ! (1 ∷ []) $ split ! $ move ! (1 ∷ []) $ split ! $ move ! (1 ∷ []) $ drop ! $ move ! (6 ∷ []) $ drop ! $
-            move ! (1 ∷ []) $ lft-end ! tt $ move ! (0 ∷ 9 ∷ 6 ∷ []) $ use3 W (later (‵ (Words 512 (numbers-of vs) l₇))) (back 𝓤 H A W 512 (ν ∷ []) δ (numbers-of vs) l₇) $ await ! tt $
+            move ! (1 ∷ []) $ lft-end ! tt $ move ! (0 ∷ 9 ∷ 6 ∷ []) $ use3 W (later (‵ (Local u64 512 (numbers-of vs) l₇))) (back 𝓤 H A W u64 512 (ν ∷ []) δ (numbers-of vs) l₇) $ await ! tt $
             assigns ! (addr ! (from ! (stop !))) (from ! (stop !)) (init ! 42 refl (tt, tt)) $
             assigns ! (agg ! (and-then ! (load ! (from ! (stop !)) (look ! 42 refl)) (and-then ! (lit ! tt) (no-more !)))) (from ! (stop !)) (init ! 40 refl (tt, (tt, (record { fits = lit< tt }, tt)))) $
             -- [numbers; κ₃; κ₁; κ₀; outcome; scratch′; text′; Og′; Os; κ₂; the locals]: `written`
@@ -319,7 +319,7 @@ module _ {M : Type 1} (𝓤 : URA M) (H : Heap 𝓤) (A : Atoms 𝓤) (W : Given
             assigns ! (agg ! (and-then ! (load ! (from ! (stop !)) (look ! 37 refl)) (and-then ! (load ! (from ! (fld ! refl (stop !))) (look-in ! 72 (sub ! 1 refl (whole !)))) (no-more !)))) (from ! (stop !)) (init ! 35 refl (tt, (tt, (record { fits = is .0 .1 .0 }, tt)))) $
             -- [k; numbers; κ₃; κ₁; κ₀; outcome; scratch′; text′; Og′; Os; κ₂; the locals]: the numbers are shared for a lifetime μ
             lft-new ! tt (λ μ. move ! (2 ∷ []) $
-            use1 W (later (some (λ (ε : GName). ‵ (Shared 512 μ ε l₇ (numbers-of vs)) ⊛ ‵ (flent (μ ∷ []) (Kept 512 (numbers-of vs) l₇))))) (shares-out 𝓤 H A W 512 room512 (numbers-of vs) (same ∙ length-replicate {A = ℕ} 512 0) (named 0) (μ ∷ []) l₇) $ await ! tt $ pick ! (λ ε. split ! $ move ! (3 ∷ 11 ∷ []) $ join ! $ move ! (1 ∷ 0 ∷ []) $ join ! $ move ! (10 ∷ 0 ∷ []) $ join ! $ move ! (2 ∷ 0 ∷ []) $ join ! $
+            use1 W (later (some (λ (ε : GName). ‵ (Shared 512 μ ε l₇ (numbers-of vs)) ⊛ ‵ (flent (μ ∷ []) (Kept u64 512 (numbers-of vs) l₇))))) (shares-out 𝓤 H A W u64 512 tt room512 (numbers-of vs) (same ∙ length-replicate {A = ℕ} 512 0) (named 0) (μ ∷ []) l₇) $ await ! tt $ pick ! (λ ε. split ! $ move ! (3 ∷ 11 ∷ []) $ join ! $ move ! (1 ∷ 0 ∷ []) $ join ! $ move ! (10 ∷ 0 ∷ []) $ join ! $ move ! (2 ∷ 0 ∷ []) $ join ! $
             use1 W (raw (Pack 𝓤 H A mem run .pre (to-pack 512 μ ε l₇ (numbers-of vs) k y))) (goes-pack 512 μ ε l₇ (numbers-of vs) k y (small 512 (omega arith) r (text-of vs) (numbers-of vs) (scratch-of vs) k (same ∙ length-replicate {A = ℕ} 512 0) f ek)) $
             -- [asked; lender; κ₃; κ₁; κ₀; outcome; scratch′; text′; Og′; the locals]: `pack`
             calls-at ! fm (Pack 𝓤 H A mem run) known-pack (to-pack 512 μ ε l₇ (numbers-of vs) k y) (and-then ! (load ! (from ! (stop !)) (look ! 39 refl)) (and-then ! (load ! (from ! (stop !)) (look ! 37 refl)) (and-then ! (load ! (from ! (stop !)) (look ! 33 refl)) (no-more !)))) (λ v.
@@ -328,7 +328,7 @@ module _ {M : Type 1} (𝓤 : URA M) (H : Heap 𝓤) (A : Atoms 𝓤) (W : Given
             split ! $ move ! (1 ∷ []) $ heard ! (ws .1 .1 .0 ≡ packed k (numbers-of vs) (s .now)) (λ er. fsplit ! $ drop ! $ fsplit ! $ drop ! $ fsplit ! $ fsplit ! $ move ! (1 ∷ []) $ feqL ! (λ lr.
             move ! (2 ∷ []) $ split ! $ move ! (1 ∷ []) $ peeks ! Nothing (Is Nothing) (shows 𝓤 H A Nothing) u (v ∷ []) (λ iu. land ! (from ! (stop !)) (init ! 46 refl (nothing-lawful 𝓤 H A W .typed u _ iu .0)) $
             move ! (1 ∷ []) $ split ! $ move ! (1 ∷ []) $ split ! $
-            move ! (2 ∷ []) $ lft-end ! tt $ move ! (0 ∷ 6 ∷ []) $ use2 W (later (‵ (Words 512 (numbers-of vs) l₇))) (shut 𝓤 H A W 512 (μ ∷ []) (numbers-of vs) l₇) $ await ! tt $ use1 W (‵ (froom (tyArray word 512) l₇ 0)) (words-room 𝓤 H A W 512 (numbers-of vs) l₇) $
+            move ! (2 ∷ []) $ lft-end ! tt $ move ! (0 ∷ 6 ∷ []) $ use2 W (later (‵ (Local u64 512 (numbers-of vs) l₇))) (shut 𝓤 H A W u64 512 (μ ∷ []) (numbers-of vs) l₇) $ await ! tt $ use1 W (‵ (froom (tyArray word 512) l₇ 0)) (local-room 𝓤 H A W u64 512 (numbers-of vs) l₇) $
             assigns ! (of-opd ! (load ! (from ! (stop !)) (look ! 67 refl))) (from ! (stop !)) (init ! 82 refl (EL.lawful O.the-type O′.the-laws 𝓤 H A W tt .typed r _ ir .0)) $
             -- [; the locals]
             returns-within ! Post refl (look ! 82 refl) $
@@ -345,7 +345,7 @@ module _ {M : Type 1} (𝓤 : URA M) (H : Heap 𝓤) (A : Atoms 𝓤) (W : Given
             assigns ! (bin ! (load ! (from ! (stop !)) (look ! 66 refl)) (lit ! tt) tt) (from ! (stop !)) (init ! 56 refl (tt, tt)) $
             rewrite ! 56 (λ (c : Bool). ‵ (fat fullShare tyBool l₁₁ 0 (vbool c))) (lt-leb n 128 over) refl $
             first ! $ branches ! (load ! (from ! (stop !)) (look ! 56 refl)) (λ y. absurd y) (λ _. skips ! $ exec ! C Λ En its.t-4 (atRet En Post) $
-            assigns ! (rep ! 8192 (lit ! tt)) (from ! (stop !)) (init ! 60 refl (zeros-typed 𝓤 H A W 8192)) $ move ! (60 ∷ []) $ use1 W (‵ (Words 8192 (zs 8192) l₉)) (zeros-in 𝓤 H A W 8192 l₉) $
+            assigns ! (rep ! 8192 (lit ! tt)) (from ! (stop !)) (init ! 60 refl (zeros-typed 𝓤 H A W w64 8192)) $ move ! (60 ∷ []) $ use1 W (‵ (Local u64 8192 (zs 8192) l₉)) (zeros-in 𝓤 H A W w64 8192 l₉) $
             assigns ! (addr ! (from ! (fld ! refl (hop ! (look-in ! 72 (sub ! 0 refl (whole !))) (stop !))))) (from ! (stop !)) (init ! 31 refl (tt, tt)) $
             assigns ! (agg ! (and-then ! (load ! (from ! (stop !)) (look ! 31 refl)) (and-then ! (load ! (from ! (fld ! refl (stop !))) (look-in ! 72 (sub ! 1 refl (whole !)))) (no-more !)))) (from ! (stop !)) (init ! 29 refl (tt, (tt, (record { fits = it .0 .1 .0 }, tt)))) $
             assigns ! (addr ! (from ! (stop !))) (from ! (stop !)) (init ! 27 refl (tt, tt)) $
@@ -354,7 +354,7 @@ module _ {M : Type 1} (𝓤 : URA M) (H : Heap 𝓤) (A : Atoms 𝓤) (W : Given
             assigns ! (agg ! (and-then ! (load ! (from ! (stop !)) (look ! 23 refl)) (and-then ! (load ! (from ! (fld ! refl (stop !))) (look-in ! 68 (sub ! 1 refl (whole !)))) (no-more !)))) (from ! (stop !)) (init ! 21 refl (tt, (tt, (record { fits = ic .0 .1 .0 }, tt)))) $
             -- [numbers; Og; Ot; Os; Oc; κ₀; κ₁; κ₂; κ₃; the locals]: the numbers are lent for a lifetime ν
             lft-new ! tt (λ ν. move ! (1 ∷ []) $
-            use1 W (later (some (λ (δ : GName). ‵ (Lent 8192 ν δ l₉) ⊛ ‵ (flent (ν ∷ []) (Held u64 8192 l₉ 0 δ))))) (lends 𝓤 H A W 8192 room8192 (zs 8192) (length-replicate {A = ℕ} 8192 0) (named 2) (ν ∷ []) l₉) $ await ! tt $ pick ! (λ δ. split ! $
+            use1 W (later (some (λ (δ : GName). ‵ (Lent 8192 ν δ l₉) ⊛ ‵ (flent (ν ∷ []) (Held u64 8192 l₉ 0 δ))))) (lends 𝓤 H A W u64 8192 tt room8192 (zs 8192) (length-replicate {A = ℕ} 8192 0) (named 2) (ν ∷ []) l₉) $ await ! tt $ pick ! (λ δ. split ! $
             move ! (3 ∷ []) $ use1 W (‵ Og ⊛ ‵ Og) (shr-slice-copy 𝓤 H A W (named 0) κ₀ u8 .twice g (gv ∷ [])) $ split ! $ move ! (2 ∷ 7 ∷ []) $ join ! $ move ! (5 ∷ 0 ∷ []) $ join ! $ move ! (1 ∷ 0 ∷ []) $ join ! $ move ! (8 ∷ 0 ∷ []) $ join ! $ move ! (3 ∷ 0 ∷ []) $ join ! $ move ! (5 ∷ 0 ∷ []) $ join ! $ move ! (4 ∷ 0 ∷ []) $ join ! $
             use1 W (raw (Core 𝓤 H A mem run .pre (to-core 8192 ν δ l₉))) (goes-core 8192 ν δ l₉ (omega (arith, length-replicate {A = ℕ} 8192 0)) (is .0 .1 .0)) $
             -- [asked; Og′; lender; Os; κ₂; the locals]: `read_numbers`
@@ -366,7 +366,7 @@ module _ {M : Type 1} (𝓤 : URA M) (H : Heap 𝓤) (A : Atoms 𝓤) (W : Given
             fsplit ! $ fsplit ! $ move ! (1 ∷ []) $ feqL ! (λ same. move ! (1 ∷ []) $ fsplit ! $ fsplit ! $ move ! (1 ∷ []) $ feqL ! (λ lc.
             move ! (4 ∷ []) $ split ! $ move ! (1 ∷ []) $ peeks ! O.the-row (Is O.the-row) (shows 𝓤 H A O.the-row) r (z ∷ []) (λ ir. land ! (from ! (stop !)) (init ! 60 refl (EL.lawful O.the-type O′.the-laws 𝓤 H A W tt .typed r _ ir .0)) $
             move ! (1 ∷ []) $ split ! $ move ! (1 ∷ []) $ split ! $ move ! (1 ∷ []) $ split ! $ move ! (1 ∷ []) $ split ! $ move ! (1 ∷ []) $ drop ! $ move ! (6 ∷ []) $ drop ! $
-            move ! (1 ∷ []) $ lft-end ! tt $ move ! (0 ∷ 9 ∷ 6 ∷ []) $ use3 W (later (‵ (Words 8192 (numbers-of vs) l₉))) (back 𝓤 H A W 8192 (ν ∷ []) δ (numbers-of vs) l₉) $ await ! tt $
+            move ! (1 ∷ []) $ lft-end ! tt $ move ! (0 ∷ 9 ∷ 6 ∷ []) $ use3 W (later (‵ (Local u64 8192 (numbers-of vs) l₉))) (back 𝓤 H A W u64 8192 (ν ∷ []) δ (numbers-of vs) l₉) $ await ! tt $
             assigns ! (addr ! (from ! (stop !))) (from ! (stop !)) (init ! 18 refl (tt, tt)) $
             assigns ! (agg ! (and-then ! (load ! (from ! (stop !)) (look ! 18 refl)) (and-then ! (big-lit ! (record { fits = lit< tt })) (no-more !)))) (from ! (stop !)) (init ! 16 refl (tt, (tt, (record { fits = lit< tt }, tt)))) $
             -- [numbers; κ₃; κ₁; κ₀; outcome; scratch′; text′; Og′; Os; κ₂; the locals]: `written`
@@ -379,7 +379,7 @@ module _ {M : Type 1} (𝓤 : URA M) (H : Heap 𝓤) (A : Atoms 𝓤) (W : Given
             assigns ! (agg ! (and-then ! (load ! (from ! (stop !)) (look ! 13 refl)) (and-then ! (load ! (from ! (fld ! refl (stop !))) (look-in ! 72 (sub ! 1 refl (whole !)))) (no-more !)))) (from ! (stop !)) (init ! 11 refl (tt, (tt, (record { fits = is .0 .1 .0 }, tt)))) $
             -- [k; numbers; κ₃; κ₁; κ₀; outcome; scratch′; text′; Og′; Os; κ₂; the locals]: the numbers are shared for a lifetime μ
             lft-new ! tt (λ μ. move ! (2 ∷ []) $
-            use1 W (later (some (λ (ε : GName). ‵ (Shared 8192 μ ε l₉ (numbers-of vs)) ⊛ ‵ (flent (μ ∷ []) (Kept 8192 (numbers-of vs) l₉))))) (shares-out 𝓤 H A W 8192 room8192 (numbers-of vs) (same ∙ length-replicate {A = ℕ} 8192 0) (named 0) (μ ∷ []) l₉) $ await ! tt $ pick ! (λ ε. split ! $ move ! (3 ∷ 11 ∷ []) $ join ! $ move ! (1 ∷ 0 ∷ []) $ join ! $ move ! (10 ∷ 0 ∷ []) $ join ! $ move ! (2 ∷ 0 ∷ []) $ join ! $
+            use1 W (later (some (λ (ε : GName). ‵ (Shared 8192 μ ε l₉ (numbers-of vs)) ⊛ ‵ (flent (μ ∷ []) (Kept u64 8192 (numbers-of vs) l₉))))) (shares-out 𝓤 H A W u64 8192 tt room8192 (numbers-of vs) (same ∙ length-replicate {A = ℕ} 8192 0) (named 0) (μ ∷ []) l₉) $ await ! tt $ pick ! (λ ε. split ! $ move ! (3 ∷ 11 ∷ []) $ join ! $ move ! (1 ∷ 0 ∷ []) $ join ! $ move ! (10 ∷ 0 ∷ []) $ join ! $ move ! (2 ∷ 0 ∷ []) $ join ! $
             use1 W (raw (Pack 𝓤 H A mem run .pre (to-pack 8192 μ ε l₉ (numbers-of vs) k y))) (goes-pack 8192 μ ε l₉ (numbers-of vs) k y (small 8192 (omega arith) r (text-of vs) (numbers-of vs) (scratch-of vs) k (same ∙ length-replicate {A = ℕ} 8192 0) f ek)) $
             -- [asked; lender; κ₃; κ₁; κ₀; outcome; scratch′; text′; Og′; the locals]: `pack`
             calls-at ! fm (Pack 𝓤 H A mem run) known-pack (to-pack 8192 μ ε l₉ (numbers-of vs) k y) (and-then ! (load ! (from ! (stop !)) (look ! 15 refl)) (and-then ! (load ! (from ! (stop !)) (look ! 13 refl)) (and-then ! (load ! (from ! (stop !)) (look ! 9 refl)) (no-more !)))) (λ v.
@@ -388,7 +388,7 @@ module _ {M : Type 1} (𝓤 : URA M) (H : Heap 𝓤) (A : Atoms 𝓤) (W : Given
             split ! $ move ! (1 ∷ []) $ heard ! (ws .1 .1 .0 ≡ packed k (numbers-of vs) (s .now)) (λ er. fsplit ! $ drop ! $ fsplit ! $ drop ! $ fsplit ! $ fsplit ! $ move ! (1 ∷ []) $ feqL ! (λ lr.
             move ! (2 ∷ []) $ split ! $ move ! (1 ∷ []) $ peeks ! Nothing (Is Nothing) (shows 𝓤 H A Nothing) u (v ∷ []) (λ iu. land ! (from ! (stop !)) (init ! 22 refl (nothing-lawful 𝓤 H A W .typed u _ iu .0)) $
             move ! (1 ∷ []) $ split ! $ move ! (1 ∷ []) $ split ! $
-            move ! (2 ∷ []) $ lft-end ! tt $ move ! (0 ∷ 6 ∷ []) $ use2 W (later (‵ (Words 8192 (numbers-of vs) l₉))) (shut 𝓤 H A W 8192 (μ ∷ []) (numbers-of vs) l₉) $ await ! tt $ use1 W (‵ (froom (tyArray word 8192) l₉ 0)) (words-room 𝓤 H A W 8192 (numbers-of vs) l₉) $
+            move ! (2 ∷ []) $ lft-end ! tt $ move ! (0 ∷ 6 ∷ []) $ use2 W (later (‵ (Local u64 8192 (numbers-of vs) l₉))) (shut 𝓤 H A W u64 8192 (μ ∷ []) (numbers-of vs) l₉) $ await ! tt $ use1 W (‵ (froom (tyArray word 8192) l₉ 0)) (local-room 𝓤 H A W u64 8192 (numbers-of vs) l₉) $
             assigns ! (of-opd ! (load ! (from ! (stop !)) (look ! 63 refl))) (from ! (stop !)) (init ! 82 refl (EL.lawful O.the-type O′.the-laws 𝓤 H A W tt .typed r _ ir .0)) $
             -- [; the locals]
             returns ! (look ! 82 refl) $

@@ -1,0 +1,56 @@
+-- `terminal::scan::scan` meets its contract.
+-- Assumes nothing.
+use Prim.Native.Nat.{_-_, _≤_}
+use mathlib.Core.Path.{_≡_}
+use borrow.Author.Needs.{needs}
+use lib.ListN.{length}
+use Rattle.laws.specs.Each.{eachDone, each-start, each-next}
+use Rattle.terminal.specs.Scan.{moduleOf}
+use Rattle.terminal.specs.ScanLaws.{scan-end}
+use Rattle.terminal.proofs.scan.scan.Statement.{statement}
+use Rattle.terminal.proofs.scan.scan.Tie as tie
+
+abbrev Inv-loop : tie.InvT-loop
+Inv-loop side halves grid₀ k₀ k-end grid k = (grid ≡ eachDone k (λ k _. moduleOf side halves k) grid₀) × (k ≤ k-end) × (length grid ≡ k-end) × (k-end ≤ 31329)
+
+abbrev μ-loop : tie.MeasureT-loop
+μ-loop side halves grid₀ k₀ k-end grid k = k-end - k
+
+loop-holds : tie.Need-loop-holds Inv-loop μ-loop
+loop-holds c = search (each-start, needs)
+
+module-at-requires : tie.Need-module-at-requires Inv-loop μ-loop
+module-at-requires c κs = search needs
+
+slice-write-grid : tie.Need-slice-write-grid Inv-loop μ-loop
+slice-write-grid c = search needs
+
+add-k : tie.Need-add-k Inv-loop μ-loop
+add-k c = search needs
+
+loop-less : tie.Need-loop-less Inv-loop μ-loop
+loop-less c = search needs
+
+loop-again : tie.Need-loop-again Inv-loop μ-loop
+loop-again c = search (each-next, needs)
+
+same-length : tie.Need-same-length Inv-loop μ-loop
+same-length c = search needs
+
+returns : tie.Need-returns Inv-loop μ-loop
+returns c = search (scan-end, needs)
+
+pub scan-spec : {M : Type 1} → statement M
+scan-spec =
+    tie.close
+    (tie.spec
+    Inv-loop
+    μ-loop
+    loop-holds
+    module-at-requires
+    slice-write-grid
+    add-k
+    loop-less
+    loop-again
+    same-length
+    returns)

@@ -1,0 +1,14 @@
+pub mod Text
+pub mod TextLaws
+pub mod Escaped
+pub mod Words
+pub mod WordLaws
+pub mod Reads
+pub mod Picture
+pub mod PictureLaws
+pub mod Scan
+pub mod ScanBack
+pub mod ScanLaws
+pub mod BeginLaws
+pub mod Choices
+pub mod ChoiceLaws
