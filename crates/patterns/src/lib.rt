@@ -51,7 +51,7 @@ fn function_module(isdark: bool) -> u8
 
 // Sets the color of a module and marks it as a function module.
 // Coordinates must be in bounds.
-pub fn set_function_module(grid: &mut [u8], size: usize, x: usize, y: usize, isdark: bool)
+fn set_function_module(grid: &mut [u8], size: usize, x: usize, y: usize, isdark: bool)
     requires { ⌜ Square (now grid) size ⌝ }
     requires { ⌜ (x < size) × (y < size) ⌝ }
     ensures { λ _. ⌜ now (grid .exit) ≡ paint size (dot x y (2 + one isdark)) (now (grid .entry)) ⌝ }
