@@ -14,7 +14,7 @@ use lib.Seq.{ext-getD, getD-take, getD-drop, getD-append-add, length-take-le, ta
 use Rattle.standard.specs.Numbers.{tabulate}
 use Rattle.standard.specs.Field.{double, timesLow, times, zeros, scale, step, divide, remainder}
 use Rattle.laws.specs.Computed.{below}
-use Rattle.laws.specs.Front.{front, front-suc}
+use Rattle.laws.specs.Front.{front, front-rest, front-suc, front-all}
 use Rattle.laws.specs.Lists.{from-cong, length-tabulate, getD-tabulate}
 use Rattle.laws.specs.Tests.{split}
 use Rattle.laws.specs.Xor.{xor-assoc}
@@ -70,7 +70,30 @@ drop-zeros m n h =
     let e : n ≡ m + (n - m) = omega arith in
     ap (drop m) (ap zeros e ∙ sym (replicate-append-replicate m (n - m) 0)) ∙ drop-at (zeros m) (zeros (n - m)) m (length-replicate {A = ℕ} m 0)
 
--- c times p, written over zeros coefficient by coefficient
+-- p with zeros after it, in a row of 32
+unfoldable pub wide : List ℕ → List ℕ
+wide p = p ++ zeros (32 - length p)
+
+wide-alike : (p : List ℕ) → Alike (wide p) p
+unfolding wide
+wide-alike p = with-zeros p (32 - length p)
+
+length-wide : (p : List ℕ) → length p ≤ 32 → length (wide p) ≡ 32
+unfolding wide
+length-wide p h = length-append p (zeros (32 - length p)) ∙ omega (arith, length-replicate {A = ℕ} (32 - length p) 0)
+
+pub wide-turn : (p o : List ℕ) (j v : ℕ) → o ≡ front j (wide p) (zeros 32) → length p ≤ 32 → j < length p → v ≡ getD p j 0
+    → set o j v ≡ front (j + 1) (wide p) (zeros 32)
+wide-turn p o j v e few h q =
+    ap (λ (l : List ℕ). set l j v) e ∙ front-suc (wide p) (zeros 32) j v (length-wide p few) (omega arith) (q ∙ sym (wide-alike p j))
+
+pub wide-end : (p o : List ℕ) (j : ℕ) → o ≡ front j (wide p) (zeros 32) → length p ≤ 32 → j ≡ length p → o ≡ wide p
+unfolding wide
+wide-end p o j e few q =
+    e ∙ ap (λ (k : ℕ). front k (wide p) (zeros 32)) q
+    ∙ ap₂ (λ (a b : List ℕ). a ++ b) (take-at p (zeros (32 - length p)) (length p) refl) (drop-zeros (length p) 32 few)
+
+-- c times that, coefficient by coefficient
 unfoldable pub padded : ℕ → List ℕ → List ℕ
 padded c p = scale c p ++ zeros (32 - length p)
 
@@ -83,17 +106,22 @@ unfolding padded
 length-padded c p h =
     length-append (scale c p) (zeros (32 - length p)) ∙ omega (arith, length-scale c p, length-replicate {A = ℕ} (32 - length p) 0)
 
-pub padded-turn : (c : ℕ) (p o : List ℕ) (j v : ℕ) → o ≡ front j (padded c p) (zeros 32) → length p ≤ 32 → j < length p → v ≡ times (getD p j 0) c
-    → set o j v ≡ front (j + 1) (padded c p) (zeros 32)
-padded-turn c p o j v e few h q =
-    ap (λ (l : List ℕ). set l j v) e
-    ∙ front-suc (padded c p) (zeros 32) j v (length-padded c p few) (omega arith) (q ∙ sym (padded-alike c p j ∙ getD-scale c p j))
+pub padded-start : (c : ℕ) (p o : List ℕ) → o ≡ wide p → length p ≤ 32 → (length o ≡ 32) × (o ≡ front 0 (padded c p) (wide p))
+padded-start c p o e few = (ap length e ∙ length-wide p few, e)
 
-pub padded-end : (c : ℕ) (p o : List ℕ) (j : ℕ) → o ≡ front j (padded c p) (zeros 32) → length p ≤ 32 → j ≡ length p → o ≡ padded c p
-unfolding padded
-padded-end c p o j e few q =
-    e ∙ ap (λ (k : ℕ). front k (padded c p) (zeros 32)) q
-    ∙ ap₂ (λ (a b : List ℕ). a ++ b) (take-at (scale c p) (zeros (32 - length p)) (length p) (length-scale c p)) (drop-zeros (length p) 32 few)
+pub padded-turn : (c : ℕ) (p o : List ℕ) (j v : ℕ) → o ≡ front j (padded c p) (wide p) → length p ≤ 32 → j < 32 → v ≡ times (getD o j 0) c
+    → set o j v ≡ front (j + 1) (padded c p) (wide p)
+padded-turn c p o j v e few h q =
+    let same : length (padded c p) ≡ length (wide p) = length-padded c p few ∙ sym (length-wide p few) in
+    let here : getD o j 0 ≡ getD p j 0
+    = ap (λ (l : List ℕ). getD l j 0) e ∙ front-rest (padded c p) (wide p) j j (omega (arith, length-padded c p few)) (omega arith) ∙ wide-alike p j in
+    ap (λ (l : List ℕ). set l j v) e
+    ∙ front-suc (padded c p) (wide p) j v same (omega (arith, length-wide p few))
+    (q ∙ ap (λ (x : ℕ). times x c) here ∙ sym (padded-alike c p j ∙ getD-scale c p j))
+
+pub padded-end : (c : ℕ) (p o : List ℕ) (j : ℕ) → o ≡ front j (padded c p) (wide p) → length p ≤ 32 → 32 ≤ j → o ≡ padded c p
+padded-end c p o j e few h =
+    e ∙ front-all (padded c p) (wide p) j (length-padded c p few ∙ sym (length-wide p few)) (omega (arith, length-wide p few))
 
 pub multiples-padded : (c : ℕ) (p : List ℕ) → multiplesOf (padded c p) ≡ multiplesOf (scale c p)
 multiples-padded c p = multiples-alike (padded c p) (scale c p) (padded-alike c p)

@@ -4,7 +4,7 @@ ghost use Prim.Native.Nat.{_+_, _*_, _<_, _≤_};
 ghost use lib.ListN.{length, getD, take};
 ghost use Rattle.standard.specs.Field.{double as doubleOf, times, scale, remainder, divisor as divisorOf};
 ghost use Rattle.field.specs.Generator.{timesRoot};
-ghost use Rattle.field.specs.Multiples.{multiplesOf, padded, Tables, stepIn};
+ghost use Rattle.field.specs.Multiples.{multiplesOf, wide, padded, Tables, stepIn};
 
 // Puts into `out` the Reed-Solomon generator polynomial whose degree is the length of `out`,
 // the coefficients from highest to lowest power, without the leading one, which is always 1.
@@ -65,14 +65,26 @@ fn next_row(rows: &mut [u8], base: &[u8], n: usize)
     }
 }
 
-// The divisor times c, with zeros after its coefficients.
+// The divisor with zeros after its coefficients.
+fn widened(divisor: &[u8]) -> [u8; 32]
+    requires { ⌜ length (now divisor) ≤ 32 ⌝ }
+    ensures { λ r. ⌜ r ≡ wide (now (divisor .entry)) ⌝ }
+{
+    let mut out: [u8; 32] = [0; 32];
+    for j in 0..divisor.len() {
+        out[j] = divisor[j];
+    }
+    out
+}
+
+// The divisor times c, with zeros after its coefficients. The loop has a fixed length, so that many are made at a time.
 fn scaled(divisor: &[u8], c: u8) -> [u8; 32]
     requires { ⌜ length (now divisor) ≤ 32 ⌝ }
     ensures { λ r. ⌜ r ≡ padded c (now (divisor .entry)) ⌝ }
 {
-    let mut out: [u8; 32] = [0; 32];
-    for j in 0..divisor.len() {
-        out[j] = reed_solomon_multiply(divisor[j], c);
+    let mut out = widened(divisor);
+    for j in 0usize..32 {
+        out[j] = reed_solomon_multiply(out[j], c);
     }
     out
 }
@@ -125,7 +137,7 @@ fn copy(from: &[u8], out: &mut [u8])
 }
 
 // Returns the product of the two given field elements modulo GF(2^8/0x11D), by shifts and sums.
-pub fn reed_solomon_multiply(x: u8, y: u8) -> u8
+fn reed_solomon_multiply(x: u8, y: u8) -> u8
     ensures { λ r. ⌜ r ≡ times x y ⌝ }
 {
     let mut z: u8 = 0;
