@@ -2,7 +2,7 @@
 ghost use Prim.Native.Nat.{_<_, _≤_};
 
 // Where the pseudo-random numbers of a case start.
-pub fn seed(v: u8, l: usize, m: u8) -> u64
+pub(crate) fn seed(v: u8, l: usize, m: u8) -> u64
     requires { ⌜ l ≤ 3 ⌝ }
     ensures { λ r. ⌜ r < 2147483648 ⌝ }
 {

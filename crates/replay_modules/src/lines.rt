@@ -3,7 +3,7 @@ ghost use Prim.Native.Nat.{_≤_};
 use types::QrCodeEcc;
 
 // What reading a line gives: its length, or that the input is at its end.
-pub enum Line {
+pub(crate) enum Line {
     Read(usize),
     End,
 }
@@ -33,7 +33,7 @@ fn next() -> u8 {
 }
 
 // The value of a digit.
-pub fn digit(c: u8) -> u8
+pub(crate) fn digit(c: u8) -> u8
     ensures { λ r. ⌜ r ≤ 9 ⌝ }
 {
     c % 16 % 10

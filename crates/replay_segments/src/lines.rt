@@ -4,7 +4,7 @@ ghost use Prim.Native.Nat.{_<_, _≤_};
 ghost use lib.ListN.{length, replicate};
 
 // A digit of a line.
-pub fn digit(b: u8) -> usize
+pub(crate) fn digit(b: u8) -> usize
     ensures { λ r. ⌜ r ≤ 9 ⌝ }
 {
     if b < 48 {
@@ -17,7 +17,7 @@ pub fn digit(b: u8) -> usize
 }
 
 // Six digits of a line.
-pub fn six(line: &[u8; 24], at: usize) -> usize
+pub(crate) fn six(line: &[u8; 24], at: usize) -> usize
     requires { ⌜ at ≤ 18 ⌝ }
     ensures { λ r. ⌜ r < 1000000 ⌝ }
 {
@@ -102,7 +102,7 @@ pub(crate) fn read_records(records: &mut [u64], count: usize) {
 }
 
 // Writes zeros.
-pub fn zero(bb: &mut [u8])
+pub(crate) fn zero(bb: &mut [u8])
     ensures { λ r. ⌜ now (bb .exit) ≡ replicate (length (now (bb .entry))) 0 ⌝ }
 {
     let n = bb.len();
