@@ -7,8 +7,7 @@ use native.Mathlib.Omega.{arith}
 use lib.ListN.{length, getD, take, drop, replicate, length-append, length-drop, length-replicate, replicate-append-replicate, take-append-drop}
 use lib.Seq.{length-take-le, take-at, drop-at, drop-drop, getD-drop}
 use Rattle.standard.specs.Bits.{bits, unpack}
-use Rattle.laws.specs.Lists.{length-bits}
-use Rattle.bits.specs.PackedLaws.{length-unpack}
+use Rattle.laws.specs.Lists.{length-bits, length-unpack}
 use Rattle.bits.specs.Fields.{field, field-hit}
 
 -- there is room for bits at a place, and zero bits stand from there on

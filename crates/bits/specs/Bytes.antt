@@ -10,8 +10,8 @@ use lib.Seq.{take-at, take-nil, take-append-add, drop-append-add}
 use Rattle.standard.specs.Numbers.{from, tabulate}
 use Rattle.standard.specs.Bits.{bits, valueFrom, byteAt, pack, unpack}
 use Rattle.standard.specs.Field.{Bytes}
-use Rattle.laws.specs.Lists.{is-tabulate, length-bits}
-use Rattle.bits.specs.PackedLaws.{length-unpack, value-bits}
+use Rattle.laws.specs.Lists.{is-tabulate, length-bits, length-unpack}
+use Rattle.bits.specs.PackedLaws.{value-bits}
 use Rattle.bits.specs.Fields.{field, Binary, field-split, field-lt}
 
 pub bytes-append : (a b : List ℕ) → Bytes a → Bytes b → Bytes (a ++ b)

@@ -10,8 +10,8 @@ use lib.Seq.{take-at, take-add, drop-at, drop-drop}
 use lib.Dec.{lit<}
 use lib.Pow.{pow-pos, pow-mono, shl-exact, shr-shr}
 use Rattle.standard.specs.Bits.{bits, valueFrom, unpack}
-use Rattle.laws.specs.Lists.{length-bits}
-use Rattle.bits.specs.PackedLaws.{length-unpack, value-bits, value-append}
+use Rattle.laws.specs.Lists.{length-bits, length-unpack}
+use Rattle.bits.specs.PackedLaws.{value-bits, value-append}
 use Rattle.bits.specs.Fields.{field, Binary, binary-unpack, field-split, field-lt}
 use Rattle.bits.specs.Bytes.{byte-bits}
 

@@ -7,7 +7,7 @@ use native.Mathlib.Nat.{le-of-suc-le-suc, not-suc-le-zero, zero-lt-suc, add-zero
 use native.Mathlib.Omega.{arith}
 use native.Mathlib.Numerals.{one-add}
 use mathlib.Core.List.{List, [], _∷_, _++_}
-use lib.ListN.{length, getD, set, take, drop, length-append, List·getD-append}
+use lib.ListN.{length, getD, set, take, drop, List·getD-append}
 use lib.Seq.{getD-append-add, set-append-left, getD-drop, paste, length-paste-head}
 use lib.Bits.{bitOr}
 use lib.Dec.{T, eqb}
@@ -17,11 +17,6 @@ use Rattle.standard.specs.Bits.{bits, unpack, valueFrom}
 use Rattle.laws.specs.Tests.{implies, implies-use}
 use Rattle.laws.specs.Lists.{same-eq, length-bits}
 use Rattle.laws.specs.Computed.{among, below}
-
-pub length-unpack : (bs : List ℕ) → length (unpack bs) ≡ 8 * length bs
-unfolding unpack
-length-unpack [] = refl
-length-unpack (b ∷ bs) = length-append (bits 8 b) (unpack bs) ∙ omega (arith, length-bits 8 b, length-unpack bs)
 
 -- bit j from the top
 pub getD-bits : (n v j : ℕ) → j < n → getD (bits n v) j 0 ≡ v / 2 ^ (n - 1 - j) % 2

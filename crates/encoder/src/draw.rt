@@ -23,7 +23,7 @@ use types::QrCodeEcc;
 use types::Version;
 
 // How many bytes of scratch are lent and zeroed.
-pub const SCRATCH: usize = 40_000;
+pub(crate) const SCRATCH: usize = 40_000;
 
 // Zeroes the first n bytes.
 fn zero(scratch: &mut [u8], n: usize)
@@ -66,7 +66,7 @@ fn draw_words(ver: Version, ecl: QrCodeEcc, msk: u8, data: &[u8], grid: &mut [u8
 }
 
 // Draws the label of data codewords into the lent grid: refusals 8 and 9, or the label.
-pub fn draw(
+pub(crate) fn draw(
     ver: Version,
     ecl: QrCodeEcc,
     msk: u8,
@@ -114,7 +114,7 @@ fn draw_plan_with(
 }
 
 // Draws the label of records that were planned.
-pub fn draw_plan(
+pub(crate) fn draw_plan(
     text: &[u8],
     records: &[u64],
     ver: Version,

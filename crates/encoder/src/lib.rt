@@ -6,8 +6,8 @@ ghost use Rattle.segments.specs.Records.{partsOf};
 ghost use Rattle.encoder.specs.Answers.{answerOf};
 ghost use Rattle.encoder.specs.Entries.{numbersIn};
 
-pub mod plan; // plan.rt: version and level for a list of records
-pub mod draw; // draw.rt: data codewords, blocks, modules, mask
+mod plan; // plan.rt: version and level for a list of records
+mod draw; // draw.rt: data codewords, blocks, modules, mask
 
 use plan::Planning;
 use types::Mask;

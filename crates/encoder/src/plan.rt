@@ -18,7 +18,7 @@ use types::QrCodeEcc;
 use types::Version;
 
 // A plan: version, level and the bits used, or why there is none.
-pub enum Planning {
+pub(crate) enum Planning {
     Planned {
         version: Version,
         level: QrCodeEcc,
@@ -158,7 +158,7 @@ fn bad_range(first: u8, last: u8) -> bool
 }
 
 // Plans a label of the given records: refusals 1 to 7 in their order, or version, level and bits.
-pub fn plan(
+pub(crate) fn plan(
     level: u8,
     minversion: u8,
     maxversion: u8,

@@ -15,7 +15,7 @@ use Rattle.standard.specs.Numbers.{tabulate}
 use Rattle.standard.specs.Field.{double, timesLow, times, zeros, scale, step, divide, remainder}
 use Rattle.laws.specs.Computed.{below}
 use Rattle.laws.specs.Front.{front, front-rest, front-suc, front-all}
-use Rattle.laws.specs.Lists.{from-cong, length-tabulate, getD-tabulate}
+use Rattle.laws.specs.Lists.{from-cong, length-tabulate, getD-tabulate, zeros-at}
 use Rattle.laws.specs.Tests.{split}
 use Rattle.laws.specs.Xor.{xor-assoc}
 use Rattle.field.specs.Times.{times-xor-r, times-zero-r, times-assoc}
@@ -51,11 +51,6 @@ unfolding multiplesOf
 multiples-alike p q h =
     from-cong 0 512 (λ k. times (getD p (k % 32) 0) (k / 32)) (λ k. times (getD q (k % 32) 0) (k / 32))
     (λ k l b. ap (λ (x : ℕ). times x (k / 32)) (h (k % 32)))
-
-zeros-at : (n j : ℕ) → getD (zeros n) j 0 ≡ 0
-zeros-at zero j = refl
-zeros-at (suc n) zero = refl
-zeros-at (suc n) (suc j) = zeros-at n j
 
 pub zeros-alike : (m n : ℕ) → Alike (zeros m) (zeros n)
 zeros-alike m n j = zeros-at m j ∙ sym (zeros-at n j)
@@ -166,13 +161,16 @@ rows-end p r n h a b e =
     let w : 512 ≤ n * 32 = omega arith in
     sym (take-all (n * 32) r (omega arith)) ∙ e ∙ take-all (n * 32) (multiplesOf p) (omega (arith, length-multiples p))
 
-module _ (p r : List ℕ) (n j d : ℕ) (some : 0 < n) (few : n < 16) (long : length r ≡ 512)
-    (e : take (n * 32 + j) r ≡ take (n * 32 + j) (multiplesOf p)) (column : j < 32) (is : d ≡ double (getD r (n / 2 * 32 + j) 0)) where
-  earlier : getD r (n / 2 * 32 + j) 0 ≡ times (getD p j 0) (n / 2)
+-- r₀ the rows before, f a copy of the row with half the number
+module _ (p r₀ r f : List ℕ) (n j d : ℕ) (some : 0 < n) (few : n < 16) (before : take (n * 32) r₀ ≡ take (n * 32) (multiplesOf p))
+    (half : f ≡ take 32 (drop (n / 2 * 32) r₀)) (long : length r ≡ 512) (e : take (n * 32 + j) r ≡ take (n * 32 + j) (multiplesOf p)) (column : j < 32)
+    (is : d ≡ double (getD f j 0)) where
+  earlier : getD f j 0 ≡ times (getD p j 0) (n / 2)
   earlier =
-      let h : n / 2 * 32 + j < n * 32 + j = omega arith in
-      sym (getD-take (n * 32 + j) r (n / 2 * 32 + j) 0 h) ∙ ap (λ (l : List ℕ). getD l (n / 2 * 32 + j) 0) e
-      ∙ getD-take (n * 32 + j) (multiplesOf p) (n / 2 * 32 + j) 0 h ∙ getD-multiples p (n / 2) j (omega arith) column
+      let h : n / 2 * 32 + j < n * 32 = omega arith in
+      ap (λ (l : List ℕ). getD l j 0) half ∙ getD-take 32 (drop (n / 2 * 32) r₀) j 0 column ∙ getD-drop (n / 2 * 32) r₀ j 0
+      ∙ sym (getD-take (n * 32) r₀ (n / 2 * 32 + j) 0 h) ∙ ap (λ (l : List ℕ). getD l (n / 2 * 32 + j) 0) before
+      ∙ getD-take (n * 32) (multiplesOf p) (n / 2 * 32 + j) 0 h ∙ getD-multiples p (n / 2) j (omega arith) column
 
   -- a turn of the code
   pub row-turn : take (n * 32 + (j + 1)) (set r (n * 32 + j) (bitXor d (n % 2 * getD p j 0))) ≡ take (n * 32 + (j + 1)) (multiplesOf p)

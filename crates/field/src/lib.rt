@@ -1,7 +1,7 @@
 // The field of 256 elements, bytes modulo 11D (hex), and Reed-Solomon check bytes over it.
 ghost use mathlib.Core.Path.{_≡_};
 ghost use Prim.Native.Nat.{_+_, _*_, _<_, _≤_};
-ghost use lib.ListN.{length, getD, take};
+ghost use lib.ListN.{length, getD, take, drop};
 ghost use Rattle.standard.specs.Field.{double as doubleOf, times, scale, remainder, divisor as divisorOf};
 ghost use Rattle.field.specs.Generator.{timesRoot};
 ghost use Rattle.field.specs.Multiples.{multiplesOf, wide, padded, Tables, stepIn};
@@ -57,12 +57,24 @@ fn next_row(rows: &mut [u8], base: &[u8], n: usize)
     requires { ⌜ take (n * 32) (now rows) ≡ take (n * 32) (multiplesOf (now base)) ⌝ }
     ensures { λ _. ⌜ take ((n + 1) * 32) (now (rows .exit)) ≡ take ((n + 1) * 32) (multiplesOf (now (base .entry))) ⌝ }
 {
+    let half = row_of(rows, n / 2);
     let at = n * 32;
-    let half = n / 2 * 32;
     let odd = (n % 2) as u8;
     for j in 0usize..32 {
-        rows[at + j] = double(rows[half + j]) ^ odd * base[j];
+        rows[at + j] = double(half[j]) ^ odd * base[j];
     }
+}
+
+// A copy of row n: of a copy, many coefficients of another row can be made at a time.
+fn row_of(rows: &[u8], n: usize) -> [u8; 32]
+    requires { ⌜ (length (now rows) ≡ 512) × (n < 16) ⌝ }
+    ensures { λ r. ⌜ r ≡ take 32 (drop (n * 32) (now (rows .entry))) ⌝ }
+{
+    let at = n * 32;
+    let end = at + 32;
+    let mut out: [u8; 32] = [0; 32];
+    copy(&rows[at..end], &mut out);
+    out
 }
 
 // The divisor with zeros after its coefficients.

@@ -1,6 +1,7 @@
 pub mod Tests
 pub mod Least
 pub mod Lists
+pub mod All
 pub mod Computed
 pub mod Sums
 pub mod Joins

@@ -1,17 +1,18 @@
--- Laws on the definition's words for lists: from, tabulate, every, same.
+-- Laws on the definition's words for lists: from, tabulate, every, same, bits.
 -- Assumes nothing.
-use Prim.Native.Nat.{ℕ, zero, suc, _+_, _≤_, _<_}
-use mathlib.Core.Bool.{Bool}
+use Prim.Native.Nat.{ℕ, zero, suc, _+_, _*_, _≤_, _<_}
+use mathlib.Core.Bool.{Bool, true}
 use mathlib.Core.List.{List, [], _∷_, _++_, map}
 use mathlib.Core.Path.{_≡_, refl, sym, ap, ap₂, _∙_}
 use native.Mathlib.Nat.{not-suc-le-zero, le-of-suc-le-suc, add-zero, add-suc, suc-add, zero-add}
 use native.Mathlib.Omega.{arith}
 use lib.Dec.{T, eqb, eqb→eq}
-use lib.ListN.{length, getD}
+use lib.ListN.{length, getD, replicate, length-append}
 use lib.Seq.{ext-getD}
+use borrow.Author.Tests.{eq-eqb}
 use Rattle.standard.specs.Numbers.{from, tabulate, every, same}
-use Rattle.standard.specs.Bits.{bits}
-use Rattle.laws.specs.Tests.{and-left, and-right, and-pair}
+use Rattle.standard.specs.Bits.{bits, unpack}
+use Rattle.laws.specs.Tests.{and-left, and-right, and-pair, and-both}
 
 -- ---- from and tabulate
 
@@ -80,9 +81,25 @@ same-eq (x ∷ xs) [] t = absurd t
 same-eq (x ∷ xs) (y ∷ ys) t =
     ap₂ (λ (a : ℕ) (l : List ℕ). a ∷ l) (eqb→eq x y (and-left (eqb x y) (same xs ys) t)) (same-eq xs ys (and-right (eqb x y) (same xs ys) t))
 
+pub same-refl : (xs : List ℕ) → same xs xs ≡ true
+same-refl [] = refl
+same-refl (x ∷ xs) = and-both (eqb x x) (same xs xs) (eq-eqb x x refl) (same-refl xs)
+
+-- ---- zeros, and what lies behind them
+
+pub zeros-at : (n i : ℕ) → getD (replicate {A = ℕ} n 0) i 0 ≡ 0
+zeros-at zero i = refl
+zeros-at (suc n) zero = refl
+zeros-at (suc n) (suc i) = zeros-at n i
+
 -- ---- bits
 
 pub length-bits : (w n : ℕ) → length (bits w n) ≡ w
 unfolding bits
 length-bits zero n = refl
 length-bits (suc w) n = ap suc (length-bits w n)
+
+pub length-unpack : (bs : List ℕ) → length (unpack bs) ≡ 8 * length bs
+unfolding unpack
+length-unpack [] = refl
+length-unpack (b ∷ bs) = length-append (bits 8 b) (unpack bs) ∙ omega (arith, length-bits 8 b, length-unpack bs)

@@ -16,7 +16,7 @@ use Rattle.standard.specs.Path.{path}
 use Rattle.standard.specs.Bits.{bits, unpack}
 use Rattle.standard.specs.Grid.{store, content, moduleAt, grid}
 use Rattle.laws.specs.Tests.{split}
-use Rattle.laws.specs.Lists.{length-tabulate, getD-tabulate, is-tabulate}
+use Rattle.laws.specs.Lists.{length-tabulate, getD-tabulate, is-tabulate, zeros-at}
 use Rattle.laws.specs.Grid.{Square, paint}
 use Rattle.laws.specs.Each.{each, eachDone, each-end}
 use Rattle.counts.specs.Free.{path-length}
@@ -25,7 +25,7 @@ use Rattle.patterns.specs.Layers.{functions}
 use Rattle.modules.specs.Mask.{masked, masked-twice}
 use Rattle.modules.specs.Zigzag.{collected, usedOf, pathLength}
 use Rattle.modules.specs.Storing.{store-append, store-other, store-light}
-use Rattle.modules.specs.Zeroed.{zeros-at, reading, reading-low}
+use Rattle.modules.specs.Zeroed.{reading, reading-low}
 use Rattle.modules.specs.Trip.{bitsLaid, read-back}
 use Rattle.modules.specs.Way.{After, walked, places-path}
 use Rattle.modules.specs.Work.{workAt, work, work-length, work-at, functions-work, empty-small, kind-at, codewords-work, content-small, turned, maskContent, mask-work, Small}

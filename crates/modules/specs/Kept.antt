@@ -29,11 +29,6 @@ keep-same p q k (suc n) f h =
 
 -- ---- bits of bytes
 
-pub length-unpack : (xs : List ℕ) → length (unpack xs) ≡ length xs * 8
-unfolding unpack bits
-length-unpack [] = refl
-length-unpack (x ∷ xs) = let e = length-unpack xs in omega arith
-
 -- bit i of the codewords is element i of their bits
 pub bit-unpack : (xs : List ℕ) (i : ℕ) → i < length xs * 8 → getD (unpack xs) i 0 ≡ bit (getD xs (i / 8) 0) (7 - i % 8)
 unfolding unpack bits

@@ -10,7 +10,6 @@ pub mod Work
 pub mod Finished
 pub mod Back
 pub mod Injective
-pub mod All
 pub mod Same
 pub mod Question
 pub mod FormatBack

@@ -3,7 +3,7 @@
 use Prim.Native.Nat.{ℕ, _+_, _*_, _/_, _%_, _≤_, _<_}
 use mathlib.Core.Bool.{Bool, true, false, cond, _&&_, _||_}
 use mathlib.Core.List.{List, [], _∷_, _++_}
-use mathlib.Core.Path.{_≡_, refl, sym, ap, ap₂, _∙_}
+use mathlib.Core.Path.{_≡_, refl, sym, ap, _∙_}
 use native.Mathlib.Omega.{arith}
 use lib.Dec.{ltb, eqb}
 use lib.ListN.{length, getD, replicate}
@@ -15,13 +15,13 @@ use Rattle.standard.specs.Functions.{isFunction, functionColour}
 use Rattle.standard.specs.Masks.{inverts}
 use Rattle.standard.specs.Grid.{content, moduleAt, grid}
 use Rattle.laws.specs.Tests.{true-T, same-test, and-both, and-first, and-second}
-use Rattle.laws.specs.Lists.{getD-tabulate, is-tabulate, same-eq}
+use Rattle.laws.specs.Lists.{getD-tabulate, is-tabulate, same-eq, same-refl}
+use Rattle.laws.specs.All.{allTo, all-at, all-of}
 use Rattle.modules.specs.Zigzag.{collected}
 use Rattle.modules.specs.Work.{workAt, work, work-at, turned, maskContent, mask-work, Small, content-small}
 use Rattle.modules.specs.Finished.{colour-lt}
 use Rattle.modules.specs.Back.{readGrid, readWords, read-work, read-label}
 use Rattle.modules.specs.Injective.{read-injective}
-use Rattle.modules.specs.All.{allTo, all-at, all-of}
 
 -- a module c of a grid and w of a work grid: where w is a function module, c is its colour
 unfoldable pub agree : ℕ → ℕ → Bool
@@ -81,10 +81,6 @@ module _ (v l m : ℕ) (g : List ℕ) (small : Small v g) where
 
 -- ---- the whole grid
 
-pub same-self : (xs : List ℕ) → same xs xs ≡ true
-same-self [] = refl
-same-self (x ∷ xs) = ap₂ (λ (a b : Bool). a && b) (eq-eqb x x refl) (same-self xs)
-
 module _ (v l m : ℕ) (g ws : List ℕ) (low : 1 ≤ v) (high : v ≤ 40) (size : length g ≡ side v * side v) (small : Small v g)
     (all : length ws ≡ rawCodewords v) (bytes : (b : ℕ) → getD ws b 0 < 256) where
   Z : List ℕ
@@ -136,10 +132,10 @@ module _ (v l m : ℕ) (g ws : List ℕ) (low : 1 ≤ v) (high : v ≤ 40) (size
       forth t =
           let a = and-first (agreeTo (side v * side v) g (readGrid v l m g)) (same (readWords v l m g Z) (ws ++ (0 ∷ []))) t in
           let b = and-second (agreeTo (side v * side v) g (readGrid v l m g)) (same (readWords v l m g Z) (ws ++ (0 ∷ []))) t in
-          ap (same g) (sym (drawn-only a (same-eq (readWords v l m g Z) (ws ++ (0 ∷ [])) (true-T (same (readWords v l m g Z) (ws ++ (0 ∷ []))) b)))) ∙ same-self g
+          ap (same g) (sym (drawn-only a (same-eq (readWords v l m g Z) (ws ++ (0 ∷ [])) (true-T (same (readWords v l m g Z) (ws ++ (0 ∷ []))) b)))) ∙ same-refl g
 
       back : same g T ≡ true → agreeTo (side v * side v) g (readGrid v l m g) && same (readWords v l m g Z) (ws ++ (0 ∷ [])) ≡ true
       back t =
           let e : g ≡ T = same-eq g T (true-T (same g T) t) in
           and-both (agreeTo (side v * side v) g (readGrid v l m g)) (same (readWords v l m g Z) (ws ++ (0 ∷ []))) (agrees e)
-          (ap (λ (x : List ℕ). same (readWords v l m x Z) (ws ++ (0 ∷ []))) e ∙ ap (λ (x : List ℕ). same x (ws ++ (0 ∷ []))) (read-label v l m ws low high all bytes) ∙ same-self (ws ++ (0 ∷ [])))
+          (ap (λ (x : List ℕ). same (readWords v l m x Z) (ws ++ (0 ∷ []))) e ∙ ap (λ (x : List ℕ). same x (ws ++ (0 ∷ []))) (read-label v l m ws low high all bytes) ∙ same-refl (ws ++ (0 ∷ [])))

@@ -15,9 +15,9 @@ use Rattle.standard.specs.Sizes.{side}
 use Rattle.standard.specs.Bits.{unpack}
 use Rattle.standard.specs.Path.{cell, free, path}
 use Rattle.standard.specs.Grid.{store}
-use Rattle.laws.specs.Lists.{from-append}
+use Rattle.laws.specs.Lists.{from-append, length-unpack}
 use Rattle.counts.specs.Zigzag.{cell-lt}
-use Rattle.modules.specs.Kept.{from-snoc, keep-append, keep-same, length-unpack, bit-unpack, unpack-bits}
+use Rattle.modules.specs.Kept.{from-snoc, keep-append, keep-same, bit-unpack, unpack-bits}
 use Rattle.modules.specs.Storing.{store-snoc-in, store-snoc-out, store-kind}
 
 -- ---- the walk

@@ -8,11 +8,12 @@ use native.Mathlib.Decide.{ℕ-discrete}
 use native.Mathlib.Nat.{pow-suc}
 use native.Mathlib.Omega.{arith}
 use lib.Dec.{ltb}
-use lib.ListN.{length, getD, set, replicate, length-set, length-replicate, getD-replicate, List·getD-eq-default}
+use lib.ListN.{length, getD, set, replicate, length-set, length-replicate}
 use lib.Pow.{pow-mono}
 use lib.Seq.{getD-set-same, getD-set-other, ext-getD}
 use borrow.Author.Tests.{ltb-true}
 use Rattle.standard.specs.Path.{cell}
+use Rattle.laws.specs.Lists.{zeros-at}
 use Rattle.laws.specs.Tests.{split}
 use Rattle.modules.specs.Zigzag.{Laid, Laid.laid, readAt, walk, walk-suc, listOf, usedOf}
 
@@ -21,11 +22,6 @@ pub record Low (o : List ℕ) (i : ℕ) : Type 0 where
   pub bytes : (b : ℕ) → getD o b 0 < 256
   pub part : getD o (i / 8) 0 < 2 ^ (i % 8)
   pub rest : (b : ℕ) → i / 8 < b → getD o b 0 ≡ 0
-
-pub zeros-at : (n b : ℕ) → getD (replicate {A = ℕ} n 0) b 0 ≡ 0
-zeros-at n b =
-    split b n (λ h. getD-replicate {A = ℕ} n b 0 0 h)
-    (λ h. List·getD-eq-default (replicate {A = ℕ} n 0) 0 (omega (arith, length-replicate {A = ℕ} n 0)))
 
 low-start : (n : ℕ) → Low (replicate n 0) 0
 low-start n = record { bytes = λ b. omega (arith, zeros-at n b); part = omega (arith, zeros-at n 0); rest = λ b h. zeros-at n b }

@@ -9,7 +9,7 @@ use native.Mathlib.Numerals.{add-one}
 use lib.ListN.{length, getD, set}
 use lib.Seq.{paste, paste-suc}
 use Rattle.standard.specs.Bits.{unpack}
-use Rattle.bits.specs.PackedLaws.{length-unpack}
+use Rattle.laws.specs.Lists.{length-unpack}
 use Rattle.bits.specs.Fields.{field, binary-unpack, field-lt}
 use Rattle.segments.specs.Kinds.{width, charOf, groupChars}
 use Rattle.segments.specs.Runs.{part}

@@ -9,7 +9,7 @@ use lib.Dec.{leb, ltb}
 use borrow.Author.Tests.{lt-ltb, le-ltb, le-leb, lt-leb}
 use lib.ListN.{length}
 use Rattle.standard.specs.Bits.{unpack}
-use Rattle.bits.specs.PackedLaws.{length-unpack}
+use Rattle.laws.specs.Lists.{length-unpack}
 use Rattle.bits.specs.Fields.{field}
 use Rattle.segments.specs.Kinds.{size, base, width}
 use Rattle.segments.specs.Tables.{width-le}

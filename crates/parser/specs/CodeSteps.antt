@@ -10,8 +10,8 @@ use borrow.Author.Tests.{lt-ltb, le-ltb, le-leb, lt-leb, ne-eqb}
 use lib.ListN.{length}
 use Rattle.standard.specs.Bits.{unpack}
 use Rattle.standard.specs.Kinds.{countWidth}
+use Rattle.laws.specs.Lists.{length-unpack}
 use Rattle.laws.specs.Tests.{cond-true}
-use Rattle.bits.specs.PackedLaws.{length-unpack}
 use Rattle.bits.specs.Fields.{field}
 use Rattle.segments.specs.Fit.{count-le}
 use Rattle.parser.specs.declared.Groups.{Groups}

@@ -10,8 +10,8 @@ use borrow.Author.Tests.{eq-eqb, ne-eqb}
 use lib.ListN.{length}
 use Rattle.standard.specs.Bits.{unpack}
 use Rattle.standard.specs.Codewords.{padByte}
+use Rattle.laws.specs.Lists.{length-unpack}
 use Rattle.laws.specs.Tests.{cond-true, cond-false}
-use Rattle.bits.specs.PackedLaws.{length-unpack}
 use Rattle.bits.specs.Fields.{field}
 use Rattle.segments.specs.Ends.{endWidth}
 use Rattle.parser.specs.declared.Groups.{Groups}

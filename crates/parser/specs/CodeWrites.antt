@@ -12,7 +12,7 @@ use borrow.Author.Tests.{leb-true}
 use lib.ListN.{length, getD, set, take, drop}
 use lib.Seq.{drop-at, paste, paste-zero, paste-suc, take-add, drop-drop, take-paste, drop-paste, take-at, take-all}
 use Rattle.standard.specs.Bits.{unpack}
-use Rattle.bits.specs.PackedLaws.{length-unpack}
+use Rattle.laws.specs.Lists.{length-unpack}
 use Rattle.bits.specs.Fields.{field}
 use Rattle.segments.specs.Kinds.{size, base, width, charOf, groupChars, length-chars, base-pos}
 use Rattle.segments.specs.Runs.{part, part-pos, part-le, part-less}

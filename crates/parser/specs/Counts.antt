@@ -9,7 +9,7 @@ use lib.Pow.{pow-mono}
 use lib.ListN.{length}
 use Rattle.standard.specs.Bits.{unpack}
 use Rattle.standard.specs.Segments.{Segment}
-use Rattle.bits.specs.PackedLaws.{length-unpack}
+use Rattle.laws.specs.Lists.{length-unpack}
 use Rattle.bits.specs.Fields.{binary-unpack}
 use Rattle.segments.specs.Fit.{count-le}
 use Rattle.parser.specs.declared.Groups.{Groups}

@@ -12,8 +12,8 @@ use Rattle.standard.specs.Sizes.{dataCodewords, capacity}
 use Rattle.standard.specs.Segments.{Segment, goodSegment, stream, totalBits, lengthsFit, fits}
 use Rattle.standard.specs.Codewords.{dataWords}
 use Rattle.standard.specs.Field.{Bytes}
+use Rattle.laws.specs.Lists.{length-unpack}
 use Rattle.laws.specs.Tests.{and-right, and-pair}
-use Rattle.bits.specs.PackedLaws.{length-unpack}
 use Rattle.bits.specs.Fields.{binary-unpack}
 use Rattle.bits.specs.Bytes.{same-bytes}
 use Rattle.counts.specs.Stream.{stream-length}

@@ -9,7 +9,7 @@ use lib.Seq.{paste, paste-zero, paste-suc, drop-append-add, drop-drop, take-at, 
 use borrow.Author.Tests.{lt-ltb, le-ltb}
 use Rattle.standard.specs.Bits.{unpack}
 use Rattle.standard.specs.Segments.{Part, Segment}
-use Rattle.bits.specs.PackedLaws.{length-unpack}
+use Rattle.laws.specs.Lists.{length-unpack}
 use Rattle.bits.specs.Fields.{binary-unpack}
 use Rattle.parser.specs.declared.Groups.{Groups}
 use Rattle.parser.specs.declared.Groups.the-variants.{Next, Fault as Fault-groups}

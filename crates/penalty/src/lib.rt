@@ -5,9 +5,11 @@ ghost use mathlib.Core.Bool.{cond, _&&_};
 ghost use lib.Dec.{leb, eqb};
 ghost use lib.ListN.{length, getD};
 ghost use Rattle.standard.specs.Numbers.{apart, one, sum, tabulate};
-ghost use Rattle.standard.specs.Penalty.{row, column, runCost, lineCost, squares, balance, penalty};
+ghost use Rattle.standard.specs.Penalty.{row, column, runCost, lineCost, balance, penalty};
 ghost use Rattle.penalty.specs.History.{fresh, pushed, patterns, ended};
 ghost use Rattle.penalty.specs.Lines.{colours, along};
+
+mod squares; // squares.rt: 2*2 blocks of modules having same color
 
 // For use in get_penalty_score, when evaluating which mask is best.
 const PENALTY_N1: u32 = 3;
@@ -24,7 +26,7 @@ pub fn get_penalty_score(grid: &[u8], side: usize) -> u32
     ensures { λ r. ⌜ r ≡ penalty side (colours (now (grid .entry))) ⌝ }
 {
     let lines = rows_penalty(grid, side) + columns_penalty(grid, side);
-    let same = PENALTY_N2 * all_squares(grid, side);
+    let same = PENALTY_N2 * squares::all_squares(grid, side);
     let total = (side * side) as u32;
     lines + same + PENALTY_N4 * balance_of(dark_modules(grid), total)
 }
@@ -101,56 +103,6 @@ fn light_patterns(runhistory: FinderPenalty, runcolor: u8) -> u32
     0
 }
 
-// 2*2 blocks of modules having same color.
-fn all_squares(grid: &[u8], side: usize) -> u32
-    requires { ⌜ (1 ≤ side) × (side ≤ 177) × (length (now grid) ≡ side * side) ⌝ }
-    ensures { λ r. ⌜ (r ≡ sum (tabulate (side - 1) (squares side (colours (now (grid .entry)))))) × (r ≤ 176 * side) ⌝ }
-{
-    let mut result: u32 = 0;
-    let last = side - 1;
-    for y in 0..last {
-        result += row_squares(grid, side, y);
-    }
-    result
-}
-
-// The blocks between row y and the next.
-fn row_squares(grid: &[u8], side: usize, y: usize) -> u32
-    requires { ⌜ (y + 1 < side) × (side ≤ 177) × (length (now grid) ≡ side * side) ⌝ }
-    ensures { λ r. ⌜ (r ≡ squares side (colours (now (grid .entry))) y) × (r ≤ 176) ⌝ }
-{
-    let mut result: u32 = 0;
-    let top = y * side;
-    let bottom = top + side;
-    let last = side - 1;
-    for x in 0..last {
-        result += same_color(
-            grid[top + x],
-            grid[top + x + 1],
-            grid[bottom + x],
-            grid[bottom + x + 1],
-        );
-    }
-    result
-}
-
-// 1 if four modules have the same color.
-fn same_color(a: u8, b: u8, c: u8, d: u8) -> u32
-    ensures { λ r. ⌜ (r ≡ one (eqb (a % 2) (b % 2) && (eqb (a % 2) (c % 2) && eqb (a % 2) (d % 2)))) × (r ≤ 1) ⌝ }
-{
-    let color = a % 2;
-    if color != b % 2 {
-        return 0;
-    }
-    if color != c % 2 {
-        return 0;
-    }
-    if color != d % 2 {
-        return 0;
-    }
-    1
-}
-
 // The number of dark modules.
 fn dark_modules(grid: &[u8]) -> u32
     requires { ⌜ length (now grid) ≤ 31329 ⌝ }
@@ -194,14 +146,14 @@ fn distance(a: u32, b: u32) -> u32
 }
 
 // The newest seven runs of a line, newest first.
-pub struct FinderPenalty {
-    pub qr_size: u32,
-    pub run_history: [u32; 7],
+struct FinderPenalty {
+    qr_size: u32,
+    run_history: [u32; 7],
 }
 
 impl FinderPenalty {
     // No run yet.
-    pub fn new(size: u32) -> Self
+    fn new(size: u32) -> Self
         ensures { λ r. ⌜ r ≡ fresh size ⌝ }
     {
         Self {
@@ -230,7 +182,7 @@ impl FinderPenalty {
     }
 
     // Pushes the given value to the front and drops the last value; the first one has the light border added.
-    pub fn add_history(&mut self, currentrunlength: u32)
+    fn add_history(&mut self, currentrunlength: u32)
         requires { ⌜ currentrunlength + now self .«qr_size» < 65536 ⌝ }
         ensures { λ _. ⌜ now (self .exit) ≡ pushed (now (self .entry)) currentrunlength ⌝ }
     {
@@ -263,7 +215,7 @@ impl FinderPenalty {
     }
 
     // Can only be called immediately after a light run is added, and returns either 0, 1, or 2.
-    pub fn count_patterns(&self) -> u32
+    fn count_patterns(&self) -> u32
         requires { ⌜ getD (now self .«run_history») 1 0 < 65536 ⌝ }
         ensures { λ r. ⌜ (r ≡ patterns (now (self .entry) .«run_history»)) × (r ≤ 2) ⌝ }
     {
@@ -271,7 +223,7 @@ impl FinderPenalty {
     }
 
     // Must be called at the end of a line (row or column) of modules.
-    pub fn terminate_and_count(mut self, currentruncolor: bool, currentrunlength: u32) -> u32
+    fn terminate_and_count(mut self, currentruncolor: bool, currentrunlength: u32) -> u32
         requires { ⌜ (currentrunlength + self .«qr_size» + self .«qr_size» < 65536) × (getD (self .«run_history») 0 0 < 65536) ⌝ }
         ensures { λ r. ⌜ (r ≡ ended (self .«qr_size») currentruncolor currentrunlength (self .«run_history»)) × (r ≤ 2) ⌝ }
     {

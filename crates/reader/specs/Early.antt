@@ -15,7 +15,7 @@ use Rattle.standard.specs.Numbers.{least, same}
 use Rattle.standard.specs.Sizes.{side}
 use Rattle.standard.specs.Plan.{refusal}
 use Rattle.standard.specs.Module.{versionOf, validSide}
-use Rattle.modules.specs.All.{allTo, all-next, all-at}
+use Rattle.laws.specs.All.{allTo, all-next, all-at}
 use Rattle.laws.specs.Least.{least-before, least-none}
 use Rattle.modules.specs.Question.{valid-range, valid-low, valid-high, valid-rest}
 use Rattle.standard.specs.Read.{firstAbove, nothing, refusedBy, firstRefusal}

@@ -15,7 +15,7 @@ use Rattle.standard.specs.Blocks.{allWords}
 use Rattle.standard.specs.Grid.{content, grid}
 use Rattle.standard.specs.Label.{Label, gridOf, Shows}
 use Rattle.laws.specs.Tests.{true-T}
-use Rattle.laws.specs.Lists.{same-eq}
+use Rattle.laws.specs.Lists.{same-eq, same-refl}
 use Rattle.counts.specs.Ranges.{version-range, pair-range}
 use Rattle.types.specs.declared.QrCodeEcc.{QrCodeEcc}
 use Rattle.types.specs.Numbers.{levelOf}
@@ -25,7 +25,6 @@ use Rattle.blocks.specs.Undo.{dataOf}
 use Rattle.blocks.specs.Theorems.{data-back}
 use Rattle.modules.specs.FormatBack.{readLevel, readMask}
 use Rattle.modules.specs.Back.{readWords}
-use Rattle.modules.specs.Same.{same-self}
 use Rattle.modules.specs.Reading.{Drawable, read-drawn}
 use Rattle.reader.specs.declared.Outcome.{Outcome}
 use Rattle.reader.specs.declared.Outcome.the-variants.{Refused}
@@ -106,7 +105,7 @@ module _ (v l m : ℕ) (g d : List ℕ) (size : length g ≡ side v * side v) (l
         let s : Same a = same-label a x in
         let e : gridOf a ≡ grid v l m (content v (allWords v l d)) =
         rw (s .version, s .level, s .mask) (ap (λ (w : List ℕ). grid v l m (content v (allWords v l w))) (sym (s .words))) in
-        let t : true ≡ false = sym (ap (same g) (sym e ∙ sym (x .drawn)) ∙ same-self g) ∙ sym tested ∙ f in
+        let t : true ≡ false = sym (ap (same g) (sym e ∙ sym (x .drawn)) ∙ same-refl g) ∙ sym tested ∙ f in
         true≢false t
 
     pub looks-none : (text records : List ℕ) → not r ≡ true → Looks g text records (Refused NoLabel) text records

@@ -101,7 +101,7 @@ fn read_data(
     blocks::data_words(ver, ecl, &all[0..raw], data);
 }
 
-// Makes all codewords of data in again, check bytes and all, and answers whether they are those in all.
+// Makes all codewords of the data anew, check bytes and all, in `again`, and answers whether they are those in `all`.
 fn same_words(ver: Version, ecl: QrCodeEcc, data: &[u8], all: &[u8], again: &mut [u8]) -> bool
     requires { ⌜ IsVersion ver × (length (now all) ≡ rawCodewords (ver .0)) × (length (now again) ≡ rawCodewords (ver .0)) × (length (now «data») ≡ dataCodewords (ver .0) (levelOf ecl)) ⌝ }
     ensures { λ r. ⌜ r ≡ same (now (all .entry)) (allWords (ver .0) (levelOf ecl) (now («data» .entry))) ⌝ }

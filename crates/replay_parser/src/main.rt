@@ -13,6 +13,7 @@ fn digit(c: u8) -> u8
     if c < 58 { c % 16 } else { (c % 16 + 9) % 16 }
 }
 
+// A byte as a wider number.
 fn wide(b: u8) -> usize
     ensures { λ r. ⌜ r < 256 ⌝ }
 {
@@ -171,6 +172,7 @@ fn rest(digits: &mut [u8], bytes: &mut [u8], n: usize) -> Line
     Line::Other
 }
 
+// Reads a line and compares: four digits with the count of its bytes, and those bytes.
 fn one() -> Line {
     let mut head = [0u8; 4];
     let got = io::read_full(0, &mut head);

@@ -39,7 +39,7 @@ pub fn size_of(kind: u8) -> usize
 }
 
 // How many of n characters stand in the next group.
-pub fn part_of(kind: u8, n: usize) -> usize
+pub(crate) fn part_of(kind: u8, n: usize) -> usize
     requires { ⌜ kind < 3 ⌝ }
     ensures { λ r. ⌜ r ≡ part kind n ⌝ }
 {

@@ -114,7 +114,7 @@ fn append_payload(bb: &mut [u8], at: usize, kind: u8, chars: &[u8], assignval: u
 }
 
 // Appends a segment: its mode, its length and its payload, and returns the bit after it.
-pub fn append_segment(
+pub(crate) fn append_segment(
     bb: &mut [u8],
     at: usize,
     ver: Version,

@@ -61,7 +61,7 @@ fn segment_bits(ver: Version, kind: u8, chars: &[u8], assignval: u32) -> TotalBi
 }
 
 // A record that is as it should be: the kind, the part of the text, and the ECI number.
-pub struct Named {
+pub(crate) struct Named {
     pub kind: u8,
     pub start: usize,
     pub end: usize,
@@ -130,7 +130,7 @@ pub fn first_bad(text: &[u8], records: &[u64]) -> usize
 }
 
 // Record i.
-pub fn record_at(text: &[u8], records: &[u64], i: usize) -> Named
+pub(crate) fn record_at(text: &[u8], records: &[u64], i: usize) -> Named
     requires { ⌜ (i < length (now records) / 4) × T (every (goodPart (now text)) (partsOf (now records))) ⌝ }
     ensures { λ r. ⌜ Means (now (text .entry)) (now (records .entry)) i (r .kind) (r .start) (r .end) (r .assign) ⌝ }
 {

@@ -8,10 +8,10 @@ use native.Mathlib.Omega.{arith}
 use lib.Dec.{T, eqb, ltb}
 use lib.ListN.{length, getD, take, drop, length-append, take-append-drop, List·getD-eq-default}
 use lib.Seq.{take-append-seam}
-use borrow.Author.Tests.{eq-eqb, not-true}
+use borrow.Author.Tests.{not-true}
 use Rattle.standard.specs.Numbers.{one, from, tabulate, join, place, every, same}
-use Rattle.laws.specs.Tests.{T-true, true-T, and-left, and-right, and-both, cond-same, split}
-use Rattle.laws.specs.Lists.{length-from, length-tabulate, getD-tabulate, from-cong, same-eq}
+use Rattle.laws.specs.Tests.{T-true, true-T, and-left, and-right, cond-same, split}
+use Rattle.laws.specs.Lists.{length-from, length-tabulate, getD-tabulate, from-cong, same-eq, same-refl}
 use Rattle.laws.specs.Grid.{square-small}
 use Rattle.terminal.specs.Text.{bytes, over, Said}
 use Rattle.terminal.specs.Picture.{shown, glyph, characters, line, picture}
@@ -85,10 +85,6 @@ scanned-small side n hs i =
     split i n
     (λ h. let e = getD-tabulate n (moduleOf side hs) i 0 h in omega (arith, module-small side hs i))
     (λ h. let e = List·getD-eq-default (tabulate n (moduleOf side hs)) 0 {n = i} (omega (arith, length-tabulate n (moduleOf side hs))) in omega arith)
-
-same-refl : (l : List ℕ) → same l l ≡ true
-same-refl [] = refl
-same-refl (x ∷ xs) = and-both (eqb x x) (same xs xs) (eq-eqb x x refl) (same-refl xs)
 
 -- what is written from the start on
 said-part : {o w h : List ℕ} {r : ℕ} → Said o 0 w h r → take (r - 0) (drop 0 h) ≡ w

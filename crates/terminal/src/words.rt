@@ -82,7 +82,7 @@ pub fn begins(text: &[u8], word: &[u8]) -> bool
 }
 
 // The number before the dash of a range.
-pub fn first_of(word: &[u8]) -> usize
+pub(crate) fn first_of(word: &[u8]) -> usize
     ensures { λ r. ⌜ (r ≡ firstOf (now (word .entry))) × (r ≤ 256) ⌝ }
 {
     let dash = place(45, word);
@@ -90,7 +90,7 @@ pub fn first_of(word: &[u8]) -> usize
 }
 
 // The number after the dash of a range.
-pub fn last_of(word: &[u8]) -> usize
+pub(crate) fn last_of(word: &[u8]) -> usize
     ensures { λ r. ⌜ (r ≡ lastOf (now (word .entry))) × (r ≤ 256) ⌝ }
 {
     let dash = place(45, word);
@@ -103,7 +103,7 @@ pub fn last_of(word: &[u8]) -> usize
 }
 
 // The level of a letter; 4 for no level.
-pub fn level_named(word: &[u8]) -> u8
+pub(crate) fn level_named(word: &[u8]) -> u8
     ensures { λ r. ⌜ r ≡ levelNamed (now (word .entry)) ⌝ }
 {
     if same(word, b"L") {
@@ -122,7 +122,7 @@ pub fn level_named(word: &[u8]) -> u8
 }
 
 // The mask of a word, 8 for `auto`; 256 for no mask.
-pub fn mask_named(word: &[u8]) -> usize
+pub(crate) fn mask_named(word: &[u8]) -> usize
     ensures { λ r. ⌜ (r ≡ maskNamed (now (word .entry))) × (r ≤ 256) ⌝ }
 {
     if same(word, b"auto") {
@@ -136,7 +136,7 @@ pub fn mask_named(word: &[u8]) -> usize
 }
 
 // 0 for `off` and 1 for `on`; 2 for neither.
-pub fn switch_named(word: &[u8]) -> u8
+pub(crate) fn switch_named(word: &[u8]) -> u8
     ensures { λ r. ⌜ r ≡ switchNamed (now (word .entry)) ⌝ }
 {
     if same(word, b"off") {

@@ -10,8 +10,8 @@ use lib.Dec.{lit<}
 use native.Mathlib.Nat.{lt-trans}
 use native.Mathlib.Numerals.{add-one}
 use Rattle.standard.specs.Bits.{unpack, bits}
-use Rattle.laws.specs.Lists.{length-bits}
-use Rattle.bits.specs.PackedLaws.{length-unpack, getD-bits, paste-rest}
+use Rattle.laws.specs.Lists.{length-bits, length-unpack}
+use Rattle.bits.specs.PackedLaws.{getD-bits, paste-rest}
 use Rattle.bits.specs.Appended.{append-field}
 use borrow.Author.Needs.{needs}
 use lib.ListN.{length, getD, set, take, drop}

@@ -4,7 +4,7 @@ use Prim.Native.Nat.{_-_, _≤_}
 use mathlib.Core.Path.{_≡_}
 use borrow.Author.Needs.{needs}
 use lib.ListN.{length}
-use Rattle.modules.specs.All.{all-none, all-next, all-end}
+use Rattle.laws.specs.All.{all-none, all-next, all-end}
 use Rattle.modules.specs.Same.{agreeTo}
 use Rattle.modules.proofs.read.same_functions.Statement.{statement}
 use Rattle.modules.proofs.read.same_functions.Tie as tie

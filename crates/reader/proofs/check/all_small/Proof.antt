@@ -4,7 +4,7 @@ use Prim.Native.Nat.{_-_, _≤_}
 use mathlib.Core.Path.{_≡_}
 use borrow.Author.Needs.{needs}
 use lib.ListN.{length}
-use Rattle.modules.specs.All.{all-none, all-end}
+use Rattle.laws.specs.All.{all-none, all-end}
 use Rattle.reader.specs.Early.{smallTo, small-next}
 use Rattle.reader.proofs.check.all_small.Statement.{statement}
 use Rattle.reader.proofs.check.all_small.Tie as tie

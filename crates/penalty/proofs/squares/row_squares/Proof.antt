@@ -1,4 +1,4 @@
--- `penalty::row_squares` meets its contract. The loop adds up the squares passed; both rows lie in the grid.
+-- `penalty::squares::row_squares` meets its contract. The loop adds up the squares passed; both rows lie in the grid.
 -- Assumes nothing.
 use Rattle.penalty.specs.Squares.{square-here, two-rows}
 use Rattle.penalty.specs.Lines.{colours}
@@ -10,8 +10,8 @@ use mathlib.Core.Path.{_≡_, refl}
 use native.Mathlib.Omega.{arith}
 use borrow.Author.Needs.{needs}
 use lib.ListN.{length}
-use Rattle.penalty.proofs.row_squares.Statement.{statement}
-use Rattle.penalty.proofs.row_squares.Tie as tie
+use Rattle.penalty.proofs.squares.row_squares.Statement.{statement}
+use Rattle.penalty.proofs.squares.row_squares.Tie as tie
 
 abbrev Inv-loop : tie.InvT-loop
 Inv-loop grid side y result₀ top bottom last x₀ result x = (x ≤ last) × (result ≡ sum (tabulate x (λ k. one (square side (colours grid) k y)))) × (result ≤ x) × (y * side + side + side ≤ length grid)

@@ -1,9 +1,9 @@
--- `penalty::same_color` meets its contract.
+-- `penalty::squares::same_color` meets its contract.
 -- Assumes nothing.
 use Rattle.penalty.specs.Squares.{second-differs, third-differs, fourth-differs, all-same}
 use borrow.Author.Needs.{needs}
-use Rattle.penalty.proofs.same_color.Statement.{statement}
-use Rattle.penalty.proofs.same_color.Tie as tie
+use Rattle.penalty.proofs.squares.same_color.Statement.{statement}
+use Rattle.penalty.proofs.squares.same_color.Tie as tie
 
 returns : tie.Need-returns
 returns c = search (second-differs, needs)

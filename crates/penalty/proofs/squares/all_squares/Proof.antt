@@ -1,4 +1,4 @@
--- `penalty::all_squares` meets its contract. The loop adds up the rows passed.
+-- `penalty::squares::all_squares` meets its contract. The loop adds up the rows passed.
 -- Assumes nothing.
 use Rattle.penalty.specs.Lines.{colours}
 use Rattle.standard.specs.Penalty.{squares}
@@ -7,8 +7,8 @@ use Rattle.laws.specs.Sums.{sum-next, sum-end}
 use Prim.Native.Nat.{_-_, _*_, _≤_}
 use mathlib.Core.Path.{_≡_}
 use borrow.Author.Needs.{needs}
-use Rattle.penalty.proofs.all_squares.Statement.{statement}
-use Rattle.penalty.proofs.all_squares.Tie as tie
+use Rattle.penalty.proofs.squares.all_squares.Statement.{statement}
+use Rattle.penalty.proofs.squares.all_squares.Tie as tie
 
 abbrev Inv-loop : tie.InvT-loop
 Inv-loop grid side result₀ last y₀ result y = (y ≤ last) × (result ≡ sum (tabulate y (squares side (colours grid)))) × (result ≤ 176 * y)
