@@ -7,6 +7,8 @@ use std::hint::black_box;
 const ROUNDS: usize = 25;
 /// A round lasts at least as long, in nanoseconds.
 const ROUND: i64 = 10_000_000;
+/// The clock is read after calls that last about as long, in nanoseconds, so that reading it counts for little.
+const BATCH: i64 = 100_000;
 
 #[repr(C)]
 struct Time {
@@ -54,6 +56,7 @@ fn rows() -> Vec<Row> {
 pub fn bench() {
     println!("level Low, versions 1 to 40, no boost; processor time in microseconds a call");
     println!("best of {ROUNDS} rounds of at least {} ms each, taken in turn", ROUND / 1_000_000);
+    println!("The clock is read after calls that last {} us or more together.", BATCH / 1_000);
     println!("The port draws in buffers that the caller lends and does not clear between calls;");
     println!("the call itself zeroes 40,000 bytes of scratch.");
     println!("The original and libqrencode allocate and free in each call; the original's segments are made in the call, as the port's are.");
@@ -87,17 +90,35 @@ pub fn bench() {
 // Best times of several things, in microseconds; rounds are taken in turn, so that a busy machine is fair to all.
 fn best(calls: &mut [&mut dyn FnMut()]) -> Vec<f64> {
     let mut times = vec![f64::MAX; calls.len()];
+    let batches: Vec<u32> = calls.iter_mut().map(|call| batch(*call)).collect();
     for _ in 0..ROUNDS {
-        for (time, call) in times.iter_mut().zip(calls.iter_mut()) {
+        for ((time, call), batch) in times.iter_mut().zip(calls.iter_mut()).zip(&batches) {
             let (start, mut n) = (now(), 0u32);
             while now() - start < ROUND {
-                call();
-                n += 1;
+                for _ in 0..*batch {
+                    call();
+                }
+                n += batch;
             }
             *time = time.min((now() - start) as f64 / 1000.0 / f64::from(n));
         }
     }
     times
+}
+
+// How many calls last as long as BATCH, found by doubling.
+fn batch(call: &mut dyn FnMut()) -> u32 {
+    let mut n = 1;
+    loop {
+        let start = now();
+        for _ in 0..n {
+            call();
+        }
+        if now() - start >= BATCH {
+            return n;
+        }
+        n *= 2;
+    }
 }
 
 fn draw_row(row: &Row) {

@@ -7,7 +7,7 @@ use native.Mathlib.Omega.{arith}
 use lib.ListN.{length, getD, take, drop, replicate, length-append, length-drop, length-replicate, replicate-append-replicate, take-append-drop}
 use lib.Seq.{length-take-le, take-at, drop-at, drop-drop, getD-drop}
 use Rattle.standard.specs.Bits.{bits, unpack}
-use Rattle.laws.specs.Lists.{length-bits, length-unpack}
+use Rattle.laws.specs.Lists.{length-bits, length-unpack, zeros-at}
 use Rattle.bits.specs.Fields.{field, field-hit}
 
 -- there is room for bits at a place, and zero bits stand from there on
@@ -152,11 +152,6 @@ progress-end buf new at p all left g e =
 
 -- ---- a zeroed buffer
 
-getD-zeros : (n k : ℕ) → getD {A = ℕ} (replicate n 0) k 0 ≡ 0
-getD-zeros zero k = refl
-getD-zeros (suc n) zero = refl
-getD-zeros (suc n) (suc k) = getD-zeros n k
-
 pub unpack-zeros : (n : ℕ) → unpack (replicate n 0) ≡ replicate (8 * n) 0
 unfolding unpack bits
 unpack-zeros zero = refl
@@ -169,5 +164,5 @@ free-zeros n bs s h =
     record {
       small = omega (arith, length-replicate {A = ℕ} n 0);
       room = omega (arith, length-replicate {A = ℕ} n 0);
-      zeros = λ k l. ap (λ (u : List ℕ). getD u k 0) (unpack-zeros n) ∙ getD-zeros (8 * n) k;
+      zeros = λ k l. ap (λ (u : List ℕ). getD u k 0) (unpack-zeros n) ∙ zeros-at (8 * n) k;
     }

@@ -4,10 +4,10 @@ use Prim.Native.Nat.{ℕ, zero, suc, _+_, _-_, _*_, _/_, _%_, _^_, _≤_, _<_}
 use mathlib.Core.Path.{_≡_, refl, sym, ap, ap₂, _∙_, subst}
 use mathlib.Core.List.{List, [], _∷_, _++_}
 use native.Mathlib.Omega.{arith}
-use native.Mathlib.Nat.{mod-lt, mod-eq-of-lt, div-one, div-div-eq-div-mul, pow-suc, zero-lt-suc, div-lt-iff-lt-mul}
+use native.Mathlib.Nat.{zero-add, suc-add, mod-lt, mod-eq-of-lt, div-one, div-div-eq-div-mul, pow-suc, zero-lt-suc, div-lt-iff-lt-mul}
 use lib.ListN.{length, take, drop, length-append, length-drop, take-append-drop}
 use lib.Seq.{take-at, drop-at, drop-drop, length-take-le}
-use lib.Pow.{pow-pos}
+use lib.Pow.{pow-pos, shr-shr}
 use Rattle.standard.specs.Bits.{bits, valueFrom, unpack}
 use Rattle.laws.specs.Lists.{length-bits}
 use Rattle.bits.specs.PackedLaws.{value-bits}
@@ -75,6 +75,21 @@ value-lt bs h =
     let p : 0 < 2 ^ length bs = pow-pos (length bs) in
     let q : valueFrom 0 bs / 2 ^ length bs < 1 = omega (arith, value-div 0 bs h) in
     omega (arith, div-lt-iff-lt-mul p .0 q)
+
+-- the bits of a number in two parts
+pub bits-add : (a b x : ℕ) → bits (a + b) x ≡ bits a (x / 2 ^ b) ++ bits b x
+unfolding bits
+bits-add zero b x = ap (λ (n : ℕ). bits n x) (zero-add b)
+bits-add (suc a) b x =
+    let e : a + b ≡ b + a = omega arith in
+    ap (λ (n : ℕ). bits n x) (suc-add a b)
+    ∙ ap₂ (λ (n : ℕ) (l : List ℕ). (n % 2) ∷ l) (ap (λ (n : ℕ). x / 2 ^ n) e ∙ sym (shr-shr x b a)) (bits-add a b x)
+
+-- the w low bits of a number are those of its rest
+pub bits-low : (w n : ℕ) → bits w (n % 2 ^ w) ≡ bits w n
+bits-low w n =
+    let v : valueFrom 0 (bits w n) ≡ n % 2 ^ w = value-bits 0 w n ∙ omega arith in
+    ap (bits w) (sym v) ∙ ap (λ (k : ℕ). bits k (valueFrom 0 (bits w n))) (sym (length-bits w n)) ∙ bits-value 0 (bits w n) (binary-bits w n)
 
 -- ---- a field that stands there
 module _ (u : List ℕ) (at w n : ℕ) (r : List ℕ) (e : drop at u ≡ bits w n ++ r) where

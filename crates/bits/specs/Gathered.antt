@@ -1,28 +1,19 @@
 -- A field of the bits of bytes, from the number of the bytes that hold it: without the bits after it, and of those up to it the low ones.
 -- Assumes nothing.
-use Prim.Native.Nat.{ℕ, zero, suc, _+_, _-_, _*_, _/_, _%_, _^_, _≤_, _<_}
+use Prim.Native.Nat.{ℕ, _+_, _-_, _*_, _/_, _%_, _^_, _≤_, _<_}
 use mathlib.Core.Path.{_≡_, refl, sym, ap, ap₂, _∙_, subst}
-use mathlib.Core.List.{List, _∷_, _++_, append-assoc}
+use mathlib.Core.List.{List, _++_, append-assoc}
 use native.Mathlib.Omega.{arith}
-use native.Mathlib.Nat.{zero-add, suc-add, one-mul, mod-lt, mod-eq-of-lt, lt-of-lt-of-le}
+use native.Mathlib.Nat.{one-mul, mod-lt, mod-eq-of-lt, lt-of-lt-of-le}
 use lib.ListN.{length, getD, take, drop}
 use lib.Seq.{take-at, take-add, drop-at, drop-drop}
 use lib.Dec.{lit<}
-use lib.Pow.{pow-pos, pow-mono, shl-exact, shr-shr}
+use lib.Pow.{pow-pos, pow-mono, shl-exact}
 use Rattle.standard.specs.Bits.{bits, valueFrom, unpack}
 use Rattle.laws.specs.Lists.{length-bits, length-unpack}
 use Rattle.bits.specs.PackedLaws.{value-bits, value-append}
-use Rattle.bits.specs.Fields.{field, Binary, binary-unpack, field-split, field-lt}
+use Rattle.bits.specs.Fields.{field, Binary, binary-unpack, bits-add, field-split, field-lt}
 use Rattle.bits.specs.Bytes.{byte-bits}
-
--- the bits of a number in two parts
-bits-add : (a b x : ℕ) → bits (a + b) x ≡ bits a (x / 2 ^ b) ++ bits b x
-unfolding bits
-bits-add zero b x = ap (λ (n : ℕ). bits n x) (zero-add b)
-bits-add (suc a) b x =
-    let e : a + b ≡ b + a = omega arith in
-    ap (λ (n : ℕ). bits n x) (suc-add a b)
-    ∙ ap₂ (λ (n : ℕ) (l : List ℕ). (n % 2) ∷ l) (ap (λ (n : ℕ). x / 2 ^ n) e ∙ sym (shr-shr x b a)) (bits-add a b x)
 
 -- a field within a field, c bits after its start and d bits before its end
 field-within : (u : List ℕ) (at c w d : ℕ) → Binary u → at + (c + (w + d)) ≤ length u → field u at (c + (w + d)) / 2 ^ d % 2 ^ w ≡ field u (at + c) w

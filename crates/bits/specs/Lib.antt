@@ -3,3 +3,4 @@ pub mod Fields
 pub mod Bytes
 pub mod Gathered
 pub mod Appended
+pub mod Pieces

@@ -1,7 +1,8 @@
 // How much a version holds: the two tables, raw modules, data codewords and the places of alignment patterns.
 ghost use mathlib.Core.Path.{_≡_};
-ghost use Prim.Native.Nat.{_+_, _≤_};
-ghost use lib.ListN.{take};
+ghost use mathlib.Core.List.{_++_};
+ghost use Prim.Native.Nat.{_+_, _-_, _≤_};
+ghost use lib.ListN.{length, replicate};
 ghost use Rattle.standard.specs.Sizes.{rawModules, checkBytes, blocks, dataCodewords};
 ghost use Rattle.standard.specs.Patterns.{alignmentStep, alignment};
 ghost use Rattle.types.specs.Numbers.{IsVersion, levelOf};
@@ -102,7 +103,7 @@ fn alignment_step(ver: Version) -> usize
     (4 * v + 2 * numalign + 1) / (2 * numalign - 2) * 2
 }
 
-// Positions of alignment patterns: the first `count` of `at`.
+// Positions of alignment patterns: the first `count` of `at`; zeros follow.
 pub struct Positions {
     pub count: usize,
     pub at: [usize; 7],
@@ -112,7 +113,7 @@ pub struct Positions {
 // Each position is in the range [0,177), and are used on both the x and y axes.
 pub fn get_alignment_pattern_positions(ver: Version) -> Positions
     requires { ⌜ IsVersion ver ⌝ }
-    ensures { λ r. ⌜ take (r .count) (r .at) ≡ alignment (ver .0) ⌝ }
+    ensures { λ r. ⌜ (r .count ≡ length (alignment (ver .0))) × (r .at ≡ alignment (ver .0) ++ replicate (7 - r .count) 0) ⌝ }
 {
     let v = number(ver);
     let mut result: [usize; 7] = [0; 7];

@@ -3,22 +3,28 @@
 use Prim.Native.Nat.{ℕ, zero, suc, min, _+_, _-_, _*_, _/_, _%_, _≤_, _<_}
 use mathlib.Core.Bool.{Bool, true, false, cond}
 use mathlib.Core.List.{List, _++_}
-use mathlib.Core.Path.{_≡_, refl, sym, ap, ap₂, _∙_, subst, subst₂}
-use native.Mathlib.Nat.{mod-lt, mod-eq-of-lt, add-mod-right, zero-mul, add-mul, div-lt-iff-lt-mul, mul-add, mul-assoc, div-add-mod'}
+use mathlib.Core.Path.{_≡_, refl, sym, ap, ap₂, _∙_}
+use native.Mathlib.Nat.{mod-lt, mod-eq-of-lt, add-mod-right, zero-mul, add-mul, mul-comm, mul-add, mul-assoc, mul-le-mul-right, div-add-mod'}
+use native.Mathlib.Numerals.{add-one}
 use native.Mathlib.Omega.{arith}
-use lib.Arith.{lt-of-le-ne, digits-div, digits-mod, digits-lt, mod-mul}
+use lib.Arith.{digits-div, digits-mod, digits-lt, mod-mul}
 use lib.Bits.{bitXor}
 use lib.Dec.{ltb, eqb}
 use lib.ListN.{length, getD, take, drop}
+use lib.Seq.{set-getD}
 use borrow.Author.Tests.{le-ltb}
 use Rattle.standard.specs.Numbers.{one, tabulate}
 use Rattle.standard.specs.Masks.{maskNumber, inverts}
 use Rattle.laws.specs.Lists.{getD-tabulate, length-tabulate, is-tabulate}
-use Rattle.laws.specs.Each.{each, eachDone, each-length, each-reached, each-part}
+use Rattle.laws.specs.Each.{each, eachDone, each-start, each-length, each-reached, each-next, each-end, each-part}
 use Rattle.laws.specs.Grid.{Square, paint}
 use Rattle.modules.specs.Mask.{flip, masked}
 
--- place k of the rows, 1 where the mask inverts
+-- column x of row y, 1 where the mask inverts
+abbrev pub onRow : ℕ → ℕ → ℕ → ℕ → ℕ
+onRow m y x v = one (inverts m x y)
+
+-- place k of the rows
 abbrev pub inRow : ℕ → ℕ → ℕ → ℕ → ℕ
 inRow m size k v = one (inverts m (k % size) (k / size))
 
@@ -48,14 +54,14 @@ inverted-flip b (suc (suc v)) = go b
 
 -- ---- a mask repeats after twelve rows
 
-product : (x y j : ℕ) → x * (j * 12 + y) ≡ (x * j) * 12 + x * y
-product x y j = mul-add x (j * 12) y ∙ ap (λ (n : ℕ). n + x * y) (sym (mul-assoc x j 12))
+product : (x y j c : ℕ) → x * (j * c + y) ≡ (x * j) * c + x * y
+product x y j c = mul-add x (j * c) y ∙ ap (λ (n : ℕ). n + x * y) (sym (mul-assoc x j c))
 
 product-two : (x y j : ℕ) → x * (j * 12 + y) % 2 ≡ x * y % 2
-product-two x y j = omega (arith, product x y j)
+product-two x y j = omega (arith, product x y j 12)
 
 product-three : (x y j : ℕ) → x * (j * 12 + y) % 3 ≡ x * y % 3
-product-three x y j = omega (arith, product x y j)
+product-three x y j = omega (arith, product x y j 12)
 
 sum-two : (x y j : ℕ) → (x + (j * 12 + y)) % 2 ≡ (x + y) % 2
 sum-two x y j = omega arith
@@ -79,85 +85,96 @@ inverts-twelve m x y =
 
 -- ---- and after six columns
 
-across-two : (x y : ℕ) → (6 + x) * y % 2 ≡ x * y % 2
-across-two x y = omega (arith, add-mul 6 x y)
+across-product : (x y j : ℕ) → (j * 6 + x) * y ≡ (y * j) * 6 + x * y
+across-product x y j = mul-comm (j * 6 + x) y ∙ product y x j 6 ∙ ap (λ (n : ℕ). (y * j) * 6 + n) (mul-comm y x)
 
-across-three : (x y : ℕ) → (6 + x) * y % 3 ≡ x * y % 3
-across-three x y = omega (arith, add-mul 6 x y)
+across-two : (x y j : ℕ) → (j * 6 + x) * y % 2 ≡ x * y % 2
+across-two x y j = omega (arith, across-product x y j)
 
-across-sum : (x y : ℕ) → (6 + x + y) % 2 ≡ (x + y) % 2
-across-sum x y = omega arith
+across-three : (x y j : ℕ) → (j * 6 + x) * y % 3 ≡ x * y % 3
+across-three x y j = omega (arith, across-product x y j)
 
-across : (m x y : ℕ) → maskNumber m (6 + x) y ≡ maskNumber m x y
+across-sum : (x y j : ℕ) → (j * 6 + x + y) % 2 ≡ (x + y) % 2
+across-sum x y j = omega arith
+
+across : (m x y j : ℕ) → maskNumber m (j * 6 + x) y ≡ maskNumber m x y
 unfolding maskNumber
-across zero x y = across-sum x y
-across (suc zero) x y = refl
-across (suc (suc zero)) x y = omega arith
-across (suc (suc (suc zero))) x y = omega arith
-across (suc (suc (suc (suc zero)))) x y = omega arith
-across (suc (suc (suc (suc (suc zero))))) x y = ap₂ _+_ (across-two x y) (across-three x y)
-across (suc (suc (suc (suc (suc (suc zero)))))) x y = ap₂ (λ (a b : ℕ). (a + b) % 2) (across-two x y) (across-three x y)
-across (suc (suc (suc (suc (suc (suc (suc m))))))) x y = ap₂ (λ (a b : ℕ). (a + b) % 2) (across-sum x y) (across-three x y)
+across zero x y j = across-sum x y j
+across (suc zero) x y j = refl
+across (suc (suc zero)) x y j = omega arith
+across (suc (suc (suc zero))) x y j = omega arith
+across (suc (suc (suc (suc zero)))) x y j = omega arith
+across (suc (suc (suc (suc (suc zero))))) x y j = ap₂ _+_ (across-two x y j) (across-three x y j)
+across (suc (suc (suc (suc (suc (suc zero)))))) x y j = ap₂ (λ (a b : ℕ). (a + b) % 2) (across-two x y j) (across-three x y j)
+across (suc (suc (suc (suc (suc (suc (suc m))))))) x y j = ap₂ (λ (a b : ℕ). (a + b) % 2) (across-sum x y j) (across-three x y j)
 
--- a column is as the one six before it
-pub inverts-across : (m x y : ℕ) → 6 ≤ x → inverts m (x - 6) y ≡ inverts m x y
+-- column x is as column x % 6
+pub inverts-six : (m x y : ℕ) → inverts m (x % 6) y ≡ inverts m x y
 unfolding inverts
-inverts-across m x y h =
-    let e : 6 + (x - 6) ≡ x = omega arith in
-    ap (λ (n : ℕ). eqb n 0) (sym (across m (x - 6) y) ∙ ap (λ (n : ℕ). maskNumber m n y) e)
+inverts-six m x y =
+    ap (λ (n : ℕ). eqb n 0) (sym (across m (x % 6) y (x / 6)) ∙ ap (λ (n : ℕ). maskNumber m n y) (div-add-mod' x 6))
 
--- a place from column 6 on, by the one six before it
-module _ (m x y k : ℕ) (h : List ℕ) (far : 6 ≤ x → (6 ≤ k) × (getD h (k - 6) 0 ≡ one (inverts m (x - 6) y))) (is : 6 ≤ x) where
-  pub before-inside : 6 ≤ k
-  before-inside = far is .0
+-- ---- a row is worked out: six places, and what repeats them
 
-  pub before-same : (w : ℕ) → w ≡ getD h (k - 6) 0 → w ≡ one (inverts m x y)
-  before-same w e = e ∙ far is .1 ∙ ap one (inverts-across m x y is)
+-- place x as place x % 6 was
+abbrev pub again : List ℕ → ℕ → ℕ → ℕ
+again r x v = getD r (x % 6) 0
 
--- ---- the rows are worked out place by place, x and y running along
+again-kept : (r : List ℕ) (n : ℕ) → n ≤ 6 → n ≤ length r → r ≡ eachDone n (again r) r
+again-kept r zero few room = each-start (again r) r
+again-kept r (suc n) few room =
+    let six : n < 6 = omega arith in
+    sym (set-getD r n 0)
+    ∙ each-next (again r) r n (getD r n 0) (length r) r (again-kept r n (omega arith) (omega arith)) refl (omega arith) (ap (λ (k : ℕ). getD r k 0) (sym (mod-eq-of-lt six)))
+    ∙ ap (λ (k : ℕ). eachDone k (again r) r) (add-one n)
 
--- place k is in column x and row y
-pub record At (size x y k : ℕ) : Type 0 where
-  pub place : y * size + x ≡ k
-  pub column : x < size
+pub again-start : (r : List ℕ) → 6 ≤ length r → r ≡ eachDone 6 (again r) r
+again-start r room = again-kept r 6 (omega arith) room
 
-module _ (size : ℕ) where
-  pub at-start : 0 < size → At size 0 0 0
-  at-start h = record { place = omega (arith, zero-mul size); column = h }
+-- the place six before was reached
+pub again-next : (r h : List ℕ) (x v : ℕ) → h ≡ eachDone x (again r) r → 6 ≤ x → x < length h → getD h (x - 6) 0 ≡ again r x v
+again-next r h x v e low b =
+    let same : length h ≡ length r = ap length e ∙ each-length (again r) r x in
+    let six : (x - 6) % 6 ≡ x % 6 = omega arith in
+    each-reached (again r) r x (x - 6) h e (omega arith) (omega arith) ∙ ap (λ (n : ℕ). getD r n 0) six
 
-  pub at-turn : (x y k a b : ℕ) → At size x y k → x + 1 ≡ size → a ≡ 0 → b ≡ y + 1 → At size a b (k + 1)
-  at-turn x y k a b h e p q =
-      subst₂ (λ (a b : ℕ). At size a b (k + 1)) (sym p) (sym q) (record { place = omega (arith, h .place, add-mul y 1 size); column = omega arith })
+pub row-done : (m y : ℕ) (g h i : List ℕ) → h ≡ eachDone 6 (onRow m y) g → 6 ≤ length g → i ≡ each (again h) h → i ≡ each (onRow m y) g
+unfolding each
+row-done m y g h i e room is =
+    is ∙ is-tabulate 0 (tabulate (length h) (λ k. again h k (getD h k 0))) (length g) _ (length-tabulate (length h) _ ∙ same)
+    (λ k b. getD-tabulate (length h) _ k 0 (omega (arith, same)) ∙ each-reached (onRow m y) g 6 (k % 6) h e (six k) (omega (arith, six k)) ∙ ap one (inverts-six m k y))
+  where
+    same : length h ≡ length g
+    same = ap length e ∙ each-length (onRow m y) g 6
 
-  pub at-next : (x y k a b : ℕ) → At size x y k → (x + 1 ≡ size → ⊥) → a ≡ x + 1 → b ≡ y → At size a b (k + 1)
-  at-next x y k a b h e p q =
-      subst₂ (λ (a b : ℕ). At size a b (k + 1)) (sym p) (sym q) (record { place = omega (arith, h .place); column = lt-of-le-ne (omega (arith, h .column)) e })
+    six : (k : ℕ) → k % 6 < 6
+    six k = omega arith
 
-  pub at-column : (x y k : ℕ) → At size x y k → size ≤ 177 → x < 177
-  at-column x y k a h = omega (arith, a .column)
+-- ---- twelve rows, one after the other
 
-  pub at-row : (x y k n : ℕ) → At size x y k → k < n → n ≡ 12 * size → y < 177
-  at-row x y k n a h e = omega (arith, twelve)
-    where
-      twelve : y < 12
-      twelve =
-          subst (λ (r : ℕ). r < 12) (ap (λ (q : ℕ). q / size) (sym (a .place)) ∙ digits-div y (a .column))
-          (div-lt-iff-lt-mul (omega (arith, a .column)) .1 (omega (arith, a .place)))
+pub rows-start : (m size : ℕ) (g : List ℕ) → g ≡ eachDone (0 * size) (inRow m size) g
+rows-start m size g = each-start (inRow m size) g ∙ ap (λ (n : ℕ). eachDone n (inRow m size) g) (sym (zero-mul size))
 
-  pub in-row : (m x y k v w : ℕ) → w ≡ one (inverts m x y) → At size x y k → w ≡ inRow m size k v
-  in-row m x y k v w e a =
-      e ∙ sym (ap₂ (λ (p q : ℕ). one (inverts m p q)) (ap (λ (n : ℕ). n % size) (sym (a .place)) ∙ digits-mod y (a .column)) (ap (λ (n : ℕ). n / size) (sym (a .place)) ∙ digits-div y (a .column)))
+pub row-room : (size y n : ℕ) → y < 12 → n ≡ 12 * size → y * size + size ≤ n
+row-room size y n h e =
+    let w : (y + 1) * size ≤ 12 * size = mul-le-mul-right size (omega arith) in
+    omega (arith, add-mul y 1 size)
 
-  -- the place six before, in the same row
-  pub in-row-before : (m x y k n : ℕ) (g h : List ℕ) → h ≡ eachDone k (inRow m size) g → At size x y k → length h ≡ n → k < n → 6 ≤ x
-      → (6 ≤ k) × (getD h (k - 6) 0 ≡ one (inverts m (x - 6) y))
-  in-row-before m x y k n g h e a long less far =
-      let same : length h ≡ length g = ap length e ∙ each-length (inRow m size) g k in
-      let before : At size (x - 6) y (k - 6) = record { place = omega (arith, a .place); column = omega (arith, a .column) } in (
-        omega (arith, a .place),
-        each-reached (inRow m size) g k (k - 6) h e (omega (arith, a .place)) (omega arith)
-            ∙ sym (in-row m (x - 6) y (k - 6) (getD g (k - 6) 0) (one (inverts m (x - 6) y)) refl before),
-      )
+pub rows-next : (m size y : ℕ) (g h i : List ℕ) → h ≡ eachDone (y * size) (inRow m size) g → length h ≡ 12 * size → y < 12
+    → i ≡ each (onRow m y) (take (y * size + size - y * size) (drop (y * size) h))
+    → take (y * size) h ++ (i ++ drop (y * size + size - y * size) (drop (y * size) h)) ≡ eachDone ((y + 1) * size) (inRow m size) g
+rows-next m size y g h i e long less is =
+    let d : y * size + size - y * size ≡ size = omega arith in
+    let same : length h ≡ length g = ap length e ∙ each-length (inRow m size) g (y * size) in
+    let next : y * size + size ≡ (y + 1) * size = omega (arith, add-mul y 1 size) in
+    rw d
+    (each-part (inRow m size) (onRow m y) g h i (y * size) size e (row-room size y (length g) less (sym same ∙ long))
+    (λ j v l. sym (ap₂ (λ (p q : ℕ). one (inverts m p q)) (digits-mod y l) (digits-div y l))) (rw d at is))
+    ∙ ap (λ (n : ℕ). eachDone n (inRow m size) g) next
+
+pub rows-end : (m size y : ℕ) (g h : List ℕ) → h ≡ eachDone (y * size) (inRow m size) g → length h ≡ 12 * size → 12 ≤ y → h ≡ each (inRow m size) g
+rows-end m size y g h e long done =
+    each-end (inRow m size) g (y * size) (12 * size) h e long (mul-le-mul-right size done)
 
 -- ---- the rows are laid over the grid
 
@@ -192,13 +209,16 @@ bands-turn r h i at n pos same less turn is-n more =
 
 -- ---- and that is the mask
 
-pub rows-mask : (m size : ℕ) (r r₀ g h : List ℕ) → r ≡ each (inRow m size) r₀ → length r₀ ≡ 12 * size → Square g size → 0 < size
+pub rows-mask : (m size : ℕ) (r r₀ g h : List ℕ) → r ≡ each (inRow m size) r₀ → length r₀ ≡ 12 * size → Square g size → 6 ≤ size
     → h ≡ each (under r) g → h ≡ paint size (masked m) g
 unfolding each paint
-rows-mask m size r r₀ g h er lr sq pos e =
+rows-mask m size r r₀ g h er lr sq some e =
     e ∙ is-tabulate 0 (tabulate (length g) (λ k. under r k (getD g k 0))) (length g) _ (length-tabulate (length g) _)
     (λ k b. getD-tabulate (length g) _ k 0 b ∙ ap (λ (v : ℕ). inverted v (getD g k 0)) (row k) ∙ inverted-flip (inverts m (k % size) (k / size)) (getD g k 0))
   where
+    pos : 0 < size
+    pos = omega arith
+
     long : length r ≡ 12 * size
     long = ap length er ∙ length-tabulate (length r₀) _ ∙ lr
 

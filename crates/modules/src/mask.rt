@@ -2,16 +2,16 @@
 use types::Mask;
 use types::Version;
 ghost use mathlib.Core.Path.{_≡_};
-ghost use Prim.Native.Nat.{_-_, _*_, _%_, _<_, _≤_, min};
+ghost use Prim.Native.Nat.{_*_, _%_, _<_, _≤_, min};
 ghost use lib.ListN.{length, getD};
 ghost use Rattle.standard.specs.Numbers.{one};
 ghost use Rattle.standard.specs.Sizes.{side};
 ghost use Rattle.standard.specs.Masks.{inverts};
 ghost use Rattle.laws.specs.Grid.{Square, paint};
-ghost use Rattle.laws.specs.Each.{each};
+ghost use Rattle.laws.specs.Each.{each, eachDone};
 ghost use Rattle.types.specs.Numbers.{IsVersion, IsMask};
 ghost use Rattle.modules.specs.Mask.{masked};
-ghost use Rattle.modules.specs.MaskRows.{inRow, inverted};
+ghost use Rattle.modules.specs.MaskRows.{onRow, again, inRow, inverted};
 
 // Whether the mask inverts the module in column x and row y.
 fn inverted(mask: u8, x: usize, y: usize) -> bool
@@ -40,33 +40,50 @@ fn inversion(mask: u8, x: usize, y: usize) -> u8
     if inverted(mask, x, y) { 1 } else { 0 }
 }
 
-// Place k of the rows, in column x and row y: from column 6 on it is as the place six before it.
-fn place_of(rows: &[u8], mask: u8, x: usize, y: usize, k: usize) -> u8
-    requires { ⌜ (mask ≤ 7) × (x < 177) × (y < 177) × (k < length (now rows)) ⌝ }
-    requires { ⌜ (6 ≤ x → (6 ≤ k) × (getD (now rows) (k - 6) 0 ≡ one (inverts mask (x - 6) y))) ⌝ }
-    ensures { λ r. ⌜ r ≡ one (inverts mask x y) ⌝ }
+// Works out the first six places of row y.
+fn first_places(row: &mut [u8], mask: u8, y: usize)
+    requires { ⌜ (6 ≤ length (now row)) × (mask ≤ 7) × (y < 177) ⌝ }
+    ensures { λ _. ⌜ now (row .exit) ≡ eachDone 6 (onRow mask y) (now (row .entry)) ⌝ }
 {
-    if x < 6 {
-        return inversion(mask, x, y);
+    let mut x: usize = 0;
+    while x < 6 {
+        row[x] = inversion(mask, x, y);
+        x += 1;
     }
-    rows[k - 6]
+}
+
+// Makes each place from the seventh on like the one six before it.
+fn repeat_places(row: &mut [u8])
+    requires { ⌜ 6 ≤ length (now row) ⌝ }
+    ensures { λ _. ⌜ now (row .exit) ≡ each (again (now (row .entry))) (now (row .entry)) ⌝ }
+{
+    let mut x: usize = 6;
+    while x < row.len() {
+        row[x] = row[x - 6];
+        x += 1;
+    }
+}
+
+// Works out row y of the mask.
+fn mask_row(row: &mut [u8], mask: u8, y: usize)
+    requires { ⌜ (6 ≤ length (now row)) × (mask ≤ 7) × (y < 177) ⌝ }
+    ensures { λ _. ⌜ now (row .exit) ≡ each (onRow mask y) (now (row .entry)) ⌝ }
+{
+    first_places(row, mask, y);
+    repeat_places(row);
 }
 
 // Works out twelve rows of the mask.
 fn mask_rows(rows: &mut [u8], size: usize, mask: u8)
-    requires { ⌜ (length (now rows) ≡ 12 * size) × (0 < size) × (size ≤ 177) × (mask ≤ 7) ⌝ }
+    requires { ⌜ (length (now rows) ≡ 12 * size) × (6 ≤ size) × (size ≤ 177) × (mask ≤ 7) ⌝ }
     ensures { λ _. ⌜ now (rows .exit) ≡ each (inRow mask size) (now (rows .entry)) ⌝ }
 {
-    let mut x: usize = 0;
     let mut y: usize = 0;
-    for k in 0..rows.len() {
-        let v = place_of(rows, mask, x, y, k);
-        rows[k] = v;
-        x += 1;
-        if x == size {
-            x = 0;
-            y += 1;
-        }
+    while y < 12 {
+        let at = y * size;
+        let end = at + size;
+        mask_row(&mut rows[at..end], mask, y);
+        y += 1;
     }
 }
 
@@ -126,7 +143,7 @@ pub fn apply_mask(grid: &mut [u8], ver: Version, mask: Mask)
 // The same, with room for twelve rows lent.
 fn mask_with(grid: &mut [u8], size: usize, mask: u8, rows: &mut [u8])
     requires { ⌜ Square (now grid) size ⌝ }
-    requires { ⌜ (length (now rows) ≡ 12 * size) × (0 < size) × (mask ≤ 7) ⌝ }
+    requires { ⌜ (length (now rows) ≡ 12 * size) × (6 ≤ size) × (mask ≤ 7) ⌝ }
     ensures { λ _. ⌜ now (grid .exit) ≡ paint size (masked mask) (now (grid .entry)) ⌝ }
 {
     mask_rows(rows, size, mask);

@@ -9,12 +9,13 @@ use lib.Dec.{T}
 use lib.ListN.{length, getD, take, drop}
 use lib.Seq.{take-at}
 use Rattle.standard.specs.Numbers.{every, tabulate}
+use Rattle.standard.specs.Read.{recordsFrom}
 use Rattle.standard.specs.Segments.{Part, Segment, segmentsOf, goodPart, goodSegment}
 use Rattle.laws.specs.Lists.{is-tabulate}
 use Rattle.segments.specs.Records.{partOf, partAt, partsOf}
 use Rattle.parser.specs.Parse.{read}
 use Rattle.parser.specs.Counts.{textLength}
-use Rattle.parser.specs.Parts.{partsFrom, parts-mean, parts-good}
+use Rattle.parser.specs.Parts.{parts-mean, parts-good}
 use Rattle.parser.specs.Written.{numbersOf, numbers-length, textAfter, recordsAfter}
 
 -- ---- records as numbers, and back
@@ -49,15 +50,15 @@ parts-read ps =
 
 module _ (ss : List Segment) (o q : List ℕ) (g : T (every goodSegment ss)) where
   -- the records that were written
-  pub written-parts : partsOf (take (4 * length ss) (recordsAfter (read ss) q)) ≡ partsFrom 0 ss
+  pub written-parts : partsOf (take (4 * length ss) (recordsAfter (read ss) q)) ≡ recordsFrom 0 ss
   written-parts =
-      ap partsOf (take-at (numbersOf (partsFrom 0 ss)) (drop (4 * length ss) q) (4 * length ss) (numbers-length 0 ss))
-      ∙ parts-read (partsFrom 0 ss)
+      ap partsOf (take-at (numbersOf (recordsFrom 0 ss)) (drop (4 * length ss) q) (4 * length ss) (numbers-length 0 ss))
+      ∙ parts-read (recordsFrom 0 ss)
 
   -- over the text that was written they mean the segments that were parsed
   pub written-mean : segmentsOf (textAfter (read ss) o) (partsOf (take (4 * length ss) (recordsAfter (read ss) q))) ≡ ss
   written-mean = ap (segmentsOf (textAfter (read ss) o)) written-parts ∙ parts-mean ss (drop (textLength ss) o) g
 
   -- and they are as records should be
-  pub written-good : T (every (goodPart (textAfter (read ss) o)) (partsFrom 0 ss))
+  pub written-good : T (every (goodPart (textAfter (read ss) o)) (recordsFrom 0 ss))
   written-good = parts-good ss (drop (textLength ss) o) g

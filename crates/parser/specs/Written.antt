@@ -8,6 +8,7 @@ use lib.ListN.{length, set, drop, length-append}
 use lib.Seq.{paste, paste-zero, paste-suc, drop-append-add, drop-drop, take-at, take-all}
 use borrow.Author.Tests.{lt-ltb, le-ltb}
 use Rattle.standard.specs.Bits.{unpack}
+use Rattle.standard.specs.Read.{characters, recordOf, recordsFrom}
 use Rattle.standard.specs.Segments.{Part, Segment}
 use Rattle.laws.specs.Lists.{length-unpack}
 use Rattle.bits.specs.Fields.{binary-unpack}
@@ -25,7 +26,7 @@ use Rattle.parser.specs.Tail.{tailAt}
 use Rattle.parser.specs.Parse.{Parsed, read, bad, more, ended, after, parseFrom, parse-step}
 use Rattle.parser.specs.Theorems.{parse}
 use Rattle.parser.specs.Counts.{counted, textLength, found-count}
-use Rattle.parser.specs.Parts.{joined, startOf, part, partsFrom}
+use Rattle.parser.specs.Parts.{startOf}
 
 -- the numbers of records, four to a record
 abbrev pub numbersOf : List Part → List ℕ
@@ -34,11 +35,11 @@ numbersOf (p ∷ ps) = p .kind ∷ p .start ∷ p .len ∷ p .assign ∷ numbers
 
 -- what the lent text and the lent records hold after the writing pass: what is written from the start on, and then what stays
 abbrev pub textAfter : Parsed → List ℕ → List ℕ
-textAfter (read ss) o = joined ss ++ drop (textLength ss) o
+textAfter (read ss) o = characters ss ++ drop (textLength ss) o
 textAfter (bad b) o = o
 
 abbrev pub recordsAfter : Parsed → List ℕ → List ℕ
-recordsAfter (read ss) q = numbersOf (partsFrom 0 ss) ++ drop (4 * length ss) q
+recordsAfter (read ss) q = numbersOf (recordsFrom 0 ss) ++ drop (4 * length ss) q
 recordsAfter (bad b) q = q
 
 -- the data were counted, and the text and the records have room in slices of n and m numbers
@@ -73,23 +74,23 @@ text-snoc : (d : List Segment) (s : Segment) → textLength (d ++ (s ∷ [])) �
 text-snoc [] s = omega arith
 text-snoc (x ∷ d) s = omega (arith, text-snoc d s)
 
-joined-snoc : (d : List Segment) (s : Segment) → joined (d ++ (s ∷ [])) ≡ joined d ++ s .chars
-joined-snoc [] s = append-nil (s .chars)
-joined-snoc (x ∷ d) s = ap (λ (l : List ℕ). x .chars ++ l) (joined-snoc d s) ∙ sym (append-assoc (x .chars) (joined d) (s .chars))
+characters-snoc : (d : List Segment) (s : Segment) → characters (d ++ (s ∷ [])) ≡ characters d ++ s .chars
+characters-snoc [] s = append-nil (s .chars)
+characters-snoc (x ∷ d) s = ap (λ (l : List ℕ). x .chars ++ l) (characters-snoc d s) ∙ sym (append-assoc (x .chars) (characters d) (s .chars))
 
-length-joined : (d : List Segment) → length (joined d) ≡ textLength d
-length-joined [] = refl
-length-joined (x ∷ d) = length-append (x .chars) (joined d) ∙ ap (λ (n : ℕ). length (x .chars) + n) (length-joined d)
+pub length-characters : (d : List Segment) → length (characters d) ≡ textLength d
+length-characters [] = refl
+length-characters (x ∷ d) = length-append (x .chars) (characters d) ∙ ap (λ (n : ℕ). length (x .chars) + n) (length-characters d)
 
 numbers-snoc : (t : ℕ) (d : List Segment) (s : Segment)
-    → numbersOf (partsFrom t (d ++ (s ∷ []))) ≡ numbersOf (partsFrom t d) ++ numbersOf (part (t + textLength d) s ∷ [])
-numbers-snoc t [] s = let z : t ≡ t + 0 = omega arith in ap (λ (n : ℕ). numbersOf (part n s ∷ [])) z
+    → numbersOf (recordsFrom t (d ++ (s ∷ []))) ≡ numbersOf (recordsFrom t d) ++ numbersOf (recordOf (t + textLength d) s ∷ [])
+numbers-snoc t [] s = let z : t ≡ t + 0 = omega arith in ap (λ (n : ℕ). numbersOf (recordOf n s ∷ [])) z
 numbers-snoc t (x ∷ d) s =
     let z : t + length (x .chars) + textLength d ≡ t + (length (x .chars) + textLength d) = omega arith in
     ap (λ (l : List ℕ). x .kind ∷ startOf (x .kind) t ∷ length (x .chars) ∷ x .assign ∷ l)
-    (numbers-snoc (t + length (x .chars)) d s ∙ ap (λ (n : ℕ). numbersOf (partsFrom (t + length (x .chars)) d) ++ numbersOf (part n s ∷ [])) z)
+    (numbers-snoc (t + length (x .chars)) d s ∙ ap (λ (n : ℕ). numbersOf (recordsFrom (t + length (x .chars)) d) ++ numbersOf (recordOf n s ∷ [])) z)
 
-pub numbers-length : (t : ℕ) (d : List Segment) → length (numbersOf (partsFrom t d)) ≡ 4 * length d
+pub numbers-length : (t : ℕ) (d : List Segment) → length (numbersOf (recordsFrom t d)) ≡ 4 * length d
 numbers-length t [] = refl
 numbers-length t (x ∷ d) = let e = numbers-length (t + length (x .chars)) d in omega arith
 
@@ -123,8 +124,8 @@ pub record Done (v : ℕ) (buf : List ℕ) (at r t : ℕ) (o q o′ q′ : List 
   pub parsed : parse v buf ≡ prepend done (parseFrom v (unpack buf) (suc (length (unpack buf)) - r) at)
   pub count : length done ≡ r
   pub chars : textLength done ≡ t
-  pub text : o′ ≡ joined done ++ drop t o
-  pub records : q′ ≡ numbersOf (partsFrom 0 done) ++ drop (4 * r) q
+  pub text : o′ ≡ characters done ++ drop t o
+  pub records : q′ ≡ numbersOf (recordsFrom 0 done) ++ drop (4 * r) q
 
 pub done-start : (v : ℕ) (buf o q : List ℕ) → Done v buf 0 0 0 o q o q
 done-start v buf o q =
@@ -206,10 +207,10 @@ module _ (v : ℕ) (buf : List ℕ) (at r t : ℕ) (o q o′ q′ : List ℕ) (D
               ∙ ap (λ (j : ℕ). prepend (d ++ (sg ∷ [])) (parseFrom v (unpack buf) j e)) x;
           count = length-snoc d sg ∙ ap (λ (j : ℕ). j + 1) (D .count);
           chars = text-snoc d sg ∙ ap₂ (λ (i j : ℕ). i + j) (D .chars) counts;
-          text = pasted (joined d) o o′ o″ (runChars kk (unpack buf) n p n) t n (length-joined d ∙ D .chars) counts (D .text) eo
-              ∙ ap (λ (y : List ℕ). y ++ drop (t + n) o) (sym (joined-snoc d sg));
-          records = pasted (numbersOf (partsFrom 0 d)) q q′ q″ (kk ∷ startOf kk t ∷ n ∷ b ∷ []) (4 * r) 4 (numbers-length 0 d ∙ ap (λ (j : ℕ). 4 * j) (D .count)) refl (D .records) eq
-              ∙ ap₂ (λ (i j : ℕ). (numbersOf (partsFrom 0 d) ++ (kk ∷ startOf kk i ∷ j ∷ b ∷ [])) ++ drop (4 * r + 4) q) zt (sym counts)
+          text = pasted (characters d) o o′ o″ (runChars kk (unpack buf) n p n) t n (length-characters d ∙ D .chars) counts (D .text) eo
+              ∙ ap (λ (y : List ℕ). y ++ drop (t + n) o) (sym (characters-snoc d sg));
+          records = pasted (numbersOf (recordsFrom 0 d)) q q′ q″ (kk ∷ startOf kk t ∷ n ∷ b ∷ []) (4 * r) 4 (numbers-length 0 d ∙ ap (λ (j : ℕ). 4 * j) (D .count)) refl (D .records) eq
+              ∙ ap₂ (λ (i j : ℕ). (numbersOf (recordsFrom 0 d) ++ (kk ∷ startOf kk i ∷ j ∷ b ∷ [])) ++ drop (4 * r + 4) q) zt (sym counts)
               ∙ ap₂ (λ (y : List ℕ) (i : ℕ). y ++ drop i q) (sym (numbers-snoc 0 d sg)) four;
         }
 
@@ -222,10 +223,10 @@ module _ (v : ℕ) (buf : List ℕ) (at r t : ℕ) (o q o′ q′ : List ℕ) (D
     all-read = whole (tailAt (unpack buf) at) (turned End was) (left End was)
 
     pub end-text : o′ ≡ textAfter (parse v buf) o
-    end-text = D .text ∙ ap (λ (j : ℕ). joined (D .done) ++ drop j o) (sym (D .chars)) ∙ ap (λ (x : Parsed). textAfter x o) (sym all-read)
+    end-text = D .text ∙ ap (λ (j : ℕ). characters (D .done) ++ drop j o) (sym (D .chars)) ∙ ap (λ (x : Parsed). textAfter x o) (sym all-read)
 
     pub end-records : q′ ≡ recordsAfter (parse v buf) q
-    end-records = D .records ∙ ap (λ (j : ℕ). numbersOf (partsFrom 0 (D .done)) ++ drop (4 * j) q) (sym (D .count)) ∙ ap (λ (x : Parsed). recordsAfter x q) (sym all-read)
+    end-records = D .records ∙ ap (λ (j : ℕ). numbersOf (recordsFrom 0 (D .done)) ++ drop (4 * j) q) (sym (D .count)) ∙ ap (λ (x : Parsed). recordsAfter x q) (sym all-read)
 
   module _ (b e : ℕ) (was : z ≡ Long b e) where
     pub long-text : o′ ≡ textAfter (parse v buf) o

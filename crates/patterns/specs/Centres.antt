@@ -2,11 +2,10 @@
 -- Assumes nothing.
 use Prim.Native.Nat.{ℕ, suc, _+_, _-_, _≤_, _<_}
 use mathlib.Core.Bool.{Bool, true, false, cond, _&&_}
-use mathlib.Core.Path.{_≡_, sym, ap, _∙_}
-use mathlib.Core.List.{List, [], _∷_}
+use mathlib.Core.Path.{_≡_, ap, _∙_}
+use mathlib.Core.List.{List, [], _∷_, _++_}
 use native.Mathlib.Omega.{arith}
-use lib.ListN.{length, getD, take, length-take}
-use lib.Seq.{getD-take}
+use lib.ListN.{length, getD, replicate, List·getD-append}
 use lib.Dec.{T, leb, ltb, eqb, eqb→eq, leb→le}
 use borrow.Author.Tests.{lt-ltb}
 use Rattle.standard.specs.Numbers.{apart, every}
@@ -146,11 +145,10 @@ module _ (v i x : ℕ) (low : 2 ≤ v) (high : v ≤ 40) (few : i < centres v) (
 pub record Positioned (v : ℕ) (at : List ℕ) : Type 0 where
   pub each : (i : ℕ) → 2 ≤ v → v ≤ 40 → i < centres v → getD at i 0 ≡ centre v i
 
-pub positioned : (v n k : ℕ) (at : List ℕ) → take k at ≡ alignment v → n ≡ v → Positioned n at
+pub positioned : (v n k : ℕ) (at : List ℕ) → (k ≡ length (alignment v)) × (at ≡ alignment v ++ replicate (7 - k) 0) → n ≡ v → Positioned n at
 positioned v n k at e q =
     rw q
     record {
       each = λ i low high few.
-          let inside : i < k = omega (arith, ap length e, length-take k at, centres-length v low high) in
-          sym (getD-take k at i 0 inside) ∙ ap (λ (l : List ℕ). getD l i 0) e;
+          ap (λ (l : List ℕ). getD l i 0) (e .1) ∙ List·getD-append (alignment v) (replicate (7 - k) 0) 0 i (omega (arith, centres-length v low high));
     }

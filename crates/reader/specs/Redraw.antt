@@ -3,7 +3,7 @@
 use Prim.Native.Nat.{ℕ, suc, _+_, _-_, _*_, _≤_}
 use mathlib.Core.Bool.{Bool, true, false}
 use mathlib.Core.List.{List, [], _∷_, _++_}
-use mathlib.Core.Path.{_≡_, refl, sym, ap, ap₂, _∙_, subst}
+use mathlib.Core.Path.{_≡_, refl, sym, ap, ap₂, _∙_}
 use native.Mathlib.Omega.{arith}
 use lib.Dec.{T}
 use lib.ListN.{length, take, drop}
@@ -21,20 +21,12 @@ use Rattle.standard.specs.Label.{Label, gridOf, Shows}
 use Rattle.laws.specs.Least.{least-here}
 use Rattle.laws.specs.Tests.{T-true, and-left, and-right}
 use Rattle.parser.specs.Few.{few-records}
-use Rattle.parser.specs.Parts.{joined, partsFrom, parts-mean, parts-good}
-use Rattle.standard.specs.Read.{readAs, Read, characters, recordOf, recordsFrom, written, Reads}
+use Rattle.parser.specs.Parts.{parts-mean, parts-good}
+use Rattle.standard.specs.Read.{readAs, Read, characters, recordsFrom, written, Reads}
 use Rattle.reader.specs.Theorems.{Accepts, accepts-only}
 use Rattle.reader.specs.Labels.{Proper, proper, codewordsOf}
 
--- ---- characters and records
-
-pub characters-joined : (ss : List Segment) → characters ss ≡ joined ss
-characters-joined [] = refl
-characters-joined (s ∷ ss) = ap (λ (l : List ℕ). s .chars ++ l) (characters-joined ss)
-
-pub records-parts : (t : ℕ) (ss : List Segment) → recordsFrom t ss ≡ partsFrom t ss
-records-parts t [] = refl
-records-parts t (s ∷ ss) = ap (λ (l : List Part). recordOf t s ∷ l) (records-parts (t + length (s .chars)) ss)
+-- ---- records
 
 pub records-length : (t : ℕ) (ss : List Segment) → length (recordsFrom t ss) ≡ length ss
 records-length t [] = refl
@@ -59,13 +51,11 @@ module _ (v l m : ℕ) (ss : List Segment) (p : Proper v l m ss) (rest : List �
 
   mean : segmentsOf text (recordsFrom 0 ss) ≡ ss
   unfolding text
-  mean = ap₂ (λ (c : List ℕ) (rs : List Part). segmentsOf (c ++ rest) rs) (characters-joined ss) (records-parts 0 ss) ∙ parts-mean ss rest (p .good)
+  mean = parts-mean ss rest (p .good)
 
   goods : T (every (goodPart text) (recordsFrom 0 ss))
   unfolding text
-  goods =
-      subst (λ (c : List ℕ). T (every (goodPart (c ++ rest)) (recordsFrom 0 ss))) (sym (characters-joined ss))
-      (subst (λ (rs : List Part). T (every (goodPart (joined ss ++ rest)) rs)) (sym (records-parts 0 ss)) (parts-good ss rest (p .good)))
+  goods = parts-good ss rest (p .good)
 
   fit-one : planFit l v v false ss ≡ planned v l (totalBits v ss)
   unfolding planFit lowestFit levelled

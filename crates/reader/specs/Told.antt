@@ -1,11 +1,11 @@
 -- What data codewords say: the list of segments whose codewords they are, or that there is none.
 -- Assumes nothing.
 use Prim.Native.Nat.{ℕ, _+_, _*_, _/_, _≤_, _<_}
-use mathlib.Core.List.{List, [], _∷_, _++_}
+use mathlib.Core.List.{List, _++_}
 use native.Mathlib.Omega.{arith}
-use mathlib.Core.Path.{_≡_, refl, sym, ap, ap₂, _∙_}
+use mathlib.Core.Path.{_≡_, refl, sym, ap, _∙_}
 use lib.Dec.{T}
-use lib.ListN.{length, drop, length-append}
+use lib.ListN.{length, drop}
 use borrow.Author.Tests.{lt-ltb, le-ltb}
 use Rattle.standard.specs.Numbers.{every}
 use Rattle.standard.specs.Sizes.{dataCodewords}
@@ -17,9 +17,8 @@ use Rattle.parser.specs.declared.Counted.{Counted}
 use Rattle.parser.specs.declared.Counted.the-variants.{Read as Counts, Bad}
 use Rattle.parser.specs.Parse.{Parsed}
 use Rattle.parser.specs.Theorems.{parse, Encoded}
-use Rattle.parser.specs.Counts.{counted, textLength}
-use Rattle.parser.specs.Written.{textAfter, recordsAfter}
-use Rattle.parser.specs.Parts.{partsFrom}
+use Rattle.parser.specs.Counts.{counted}
+use Rattle.parser.specs.Written.{textAfter, recordsAfter, length-characters}
 use Rattle.parser.specs.Answers.{Accepted, accepted, refused}
 use Rattle.standard.specs.Read.{readAs, Read, refuseTo, characters, recordsFrom, written, labelled}
 use Rattle.reader.specs.declared.Outcome.{Outcome}
@@ -27,7 +26,7 @@ use Rattle.reader.specs.Answers.{readOf}
 use Rattle.reader.specs.Labels.{labelOf}
 use Rattle.segments.specs.Records.{partsOf, parts-length}
 use Rattle.reader.specs.Numbers.{Rest, parts-after, rest-after}
-use Rattle.reader.specs.Redraw.{characters-joined, records-parts, records-length}
+use Rattle.reader.specs.Redraw.{records-length}
 
 pub data Told (v l m : ℕ) (ws text : List ℕ) (records : List Part) (z : List ℕ) (out : Read) : Type 0 where
   says : (ss : List Segment) → Encoded v l ws ss → out ≡ labelled (labelOf v l m ss) text records z → Told v l m ws text records z out
@@ -39,10 +38,6 @@ pub record Tells (v l m : ℕ) (ws text records : List ℕ) (r : Outcome) (o q :
   pub at : (z : List ℕ) → Told v l m ws text (partsOf records) z (readOf r o (partsOf q) z)
   pub rest : Rest records q
 
-joined-length : (ss : List Segment) → length (characters ss) ≡ textLength ss
-joined-length [] = refl
-joined-length (s ∷ ss) = length-append (s .chars) (characters ss) ∙ ap (λ (n : ℕ). length (s .chars) + n) (joined-length ss)
-
 module _ (v l m : ℕ) (ws text records z : List ℕ) (c : Counted) (is : c ≡ counted (parse v ws)) where
   pub told-bad : (b : ℕ) → c ≡ Bad b → Told v l m ws text (partsOf records) z (refuseTo (refusal 14 0 0) text (partsOf records) z)
   told-bad b e = silent (refused v l ws b (sym is ∙ e)) refl
@@ -52,7 +47,7 @@ module _ (v l m : ℕ) (ws text records z : List ℕ) (c : Counted) (is : c ≡ 
     A = accepted v l ws hb hl r t (sym is ∙ was)
 
     long : t ≡ length (characters (A .segments))
-    long = A .text ∙ sym (joined-length (A .segments))
+    long = A .text ∙ sym (length-characters (A .segments))
 
     pub told-text : length text < t → Told v l m ws text (partsOf records) z (refuseTo (refusal 15 t 0) text (partsOf records) z)
     unfolding labelled
@@ -68,13 +63,10 @@ module _ (v l m : ℕ) (ws text records z : List ℕ) (c : Counted) (is : c ≡ 
         to-records : t ≤ length text → length records / 4 < r → labelled (labelOf v l m (A .segments)) text (partsOf records) z ≡ refuseTo (refusal 16 r 0) text (partsOf records) z
         to-records h k = rw (← long, le-ltb (length text) t h, ← A .records, parts-length records, lt-ltb (length records / 4) r k)
 
-    count-from : length (partsFrom 0 (A .segments)) ≡ length (A .segments)
-    count-from = sym (ap length (records-parts 0 (A .segments))) ∙ records-length 0 (A .segments)
-
     pub told-rest : r ≤ length records / 4 → (q : List ℕ) → q ≡ recordsAfter (parse v ws) records → Rest records q
     told-rest k q f =
         ap (drop (4 * (length records / 4))) (f ∙ ap (λ (p : Parsed). recordsAfter p records) (A .parsed))
-        ∙ rest-after (length (A .segments)) (partsFrom 0 (A .segments)) records count-from (omega (arith, A .records))
+        ∙ rest-after (length (A .segments)) (recordsFrom 0 (A .segments)) records (records-length 0 (A .segments)) (omega (arith, A .records))
 
     pub told-written : t ≤ length text → r ≤ length records / 4 → (o q : List ℕ) → o ≡ textAfter (parse v ws) text → q ≡ recordsAfter (parse v ws) records
         → Told v l m ws text (partsOf records) z (record { answer = readAs v l m r t; text = o; records = partsOf q; scratch = z })
@@ -83,13 +75,12 @@ module _ (v l m : ℕ) (ws text records z : List ℕ) (c : Counted) (is : c ≡ 
       where
         texts : characters (A .segments) ++ drop (length (characters (A .segments))) text ≡ o
         texts =
-            ap₂ (λ (x : List ℕ) (n : ℕ). x ++ drop n text) (characters-joined (A .segments)) (joined-length (A .segments))
+            ap (λ (n : ℕ). characters (A .segments) ++ drop n text) (length-characters (A .segments))
             ∙ sym (e ∙ ap (λ (p : Parsed). textAfter p text) (A .parsed))
 
         lists : recordsFrom 0 (A .segments) ++ drop (length (A .segments)) (partsOf records) ≡ partsOf q
         lists =
-            ap (λ (x : List Part). x ++ drop (length (A .segments)) (partsOf records)) (records-parts 0 (A .segments))
-            ∙ sym (ap partsOf (f ∙ ap (λ (p : Parsed). recordsAfter p records) (A .parsed)) ∙ parts-after (length (A .segments)) (partsFrom 0 (A .segments)) records count-from (omega (arith, A .records)))
+            sym (ap partsOf (f ∙ ap (λ (p : Parsed). recordsAfter p records) (A .parsed)) ∙ parts-after (length (A .segments)) (recordsFrom 0 (A .segments)) records (records-length 0 (A .segments)) (omega (arith, A .records)))
 
         to-label : labelled (labelOf v l m (A .segments)) text (partsOf records) z ≡ record { answer = readAs v l m r t; text = o; records = partsOf q; scratch = z }
         to-label = rw (texts, lists, ← long, le-ltb (length text) t h, ← A .records, parts-length records, le-ltb (length records / 4) r k)

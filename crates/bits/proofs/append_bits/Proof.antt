@@ -1,104 +1,111 @@
--- `bits::append_bits` meets its contract: appending writes the bits one by one; the buffer's bits become the old ones with the field pasted in.
+-- `bits::append_bits` meets its contract: piece after piece is put into its byte.
 -- Assumes nothing.
-use Prim.Native.Nat.{ℕ, _+_, _-_, _*_, _/_, _^_, _≤_, _<_}
-use mathlib.Core.Path.{_≡_, refl, sym, ap, ap₂, _∙_}
-use mathlib.Core.List.{List, _++_}
+use Prim.Native.Nat.{_-_, _≤_}
+use mathlib.Core.Path.{_≡_, refl, _∙_}
 use native.Mathlib.Omega.{arith}
-use lib.Seq.{paste, paste-zero, paste-suc, take-all}
-use lib.Bits.{bitAnd, and-mask, mask-lt}
-use lib.Dec.{lit<}
-use native.Mathlib.Nat.{lt-trans}
-use native.Mathlib.Numerals.{add-one}
-use Rattle.standard.specs.Bits.{unpack, bits}
-use Rattle.laws.specs.Lists.{length-bits, length-unpack}
-use Rattle.bits.specs.PackedLaws.{getD-bits, paste-rest}
-use Rattle.bits.specs.Appended.{append-field}
 use borrow.Author.Needs.{needs}
-use lib.ListN.{length, getD, set, take, drop}
+use lib.ListN.{length}
+use Rattle.standard.specs.Bits.{bits}
+use Rattle.bits.specs.Appended.{Progress, progress-start}
+use Rattle.bits.specs.Pieces.{power-some, piece-lt, piece-byte, piece-free, piece-room, piece-next, pieces-end}
 use Rattle.bits.proofs.append_bits.Statement.{statement}
 use Rattle.bits.proofs.append_bits.Tie as tie
 
 abbrev Inv-loop : tie.InvT-loop
-Inv-loop buf₀ at val len n j₀ buf j = (j ≤ n) × (length buf ≡ length buf₀) × (at + n ≤ 8 * length buf₀) × (8 * length buf₀ < 2 ^ 64) × (unpack buf ≡ paste (unpack buf₀) at (bits n val) j)
+Inv-loop buf₀ at val len left₀ p₀ buf left p = (left ≤ 32) × (length buf ≡ length buf₀) × Progress buf₀ buf at p (bits len val) (bits left val)
 
 abbrev μ-loop : tie.MeasureT-loop
-μ-loop buf₀ at val len n j₀ buf j = n - j
+μ-loop buf₀ at val len left₀ p₀ buf left p = left
 
 loop-holds : tie.Need-loop-holds Inv-loop μ-loop
 loop-holds c =
     let a = c .before .args in
-    (search needs, refl, omega (arith, length-bits (a .len) (a .val), c .before .pre .1 .room), c .before .pre .1 .small, paste-zero (unpack (a .buf .now)) (a .at) (bits (a .len) (a .val)))
+    (omega arith, refl, progress-start (a .buf .now) (a .at) (bits (a .len) (a .val)) (bits (a .len) (a .val)) refl)
 
-add-put-bit : tie.Need-add-put-bit Inv-loop μ-loop
-add-put-bit c = search needs
+in-byte-requires : tie.Need-in-byte-requires Inv-loop μ-loop
+in-byte-requires c κs = search needs
 
-sub-put-bit : tie.Need-sub-put-bit Inv-loop μ-loop
-sub-put-bit c = search needs
+sub-put-bits : tie.Need-sub-put-bits Inv-loop μ-loop
+sub-put-bits c = search needs
 
-sub-put-bit-2 : tie.Need-sub-put-bit-2 Inv-loop μ-loop
-sub-put-bit-2 c = search needs
+cast-put-bits : tie.Need-cast-put-bits Inv-loop μ-loop
+cast-put-bits c = search needs
 
-cast-put-bit : tie.Need-cast-put-bit Inv-loop μ-loop
-cast-put-bit c = search needs
+shr-put-bits : tie.Need-shr-put-bits Inv-loop μ-loop
+shr-put-bits c = search needs
 
-shr-put-bit : tie.Need-shr-put-bit Inv-loop μ-loop
-shr-put-bit c = search needs
+cast-put-bits-2 : tie.Need-cast-put-bits-2 Inv-loop μ-loop
+cast-put-bits-2 c = search needs
 
-cast-put-bit-2 : tie.Need-cast-put-bit-2 Inv-loop μ-loop
-cast-put-bit-2 c =
-    let a = c .before .before .before .before .args in
-    record { fits = lt-trans (mask-lt (a .val / 2 ^ (a .len - 1 - c .before .before .loop .j)) 1) (lit< tt) }
+shl-put-bits : tie.Need-shl-put-bits Inv-loop μ-loop
+shl-put-bits c = search needs
 
-put-bit-requires : tie.Need-put-bit-requires Inv-loop μ-loop
-put-bit-requires c κs =
-    let k = c .before .before in
-    let a = k .before .before .args in
-    let j = k .loop .j in
-    let u = unpack (a .buf .now) in (
+rem-put-bits : tie.Need-rem-put-bits Inv-loop μ-loop
+rem-put-bits c =
+    let k = c .before in
+    let l = k .before .before .loop in
+    let s = k .before .before .before .before in
+    let a = s .args in
+    let w = k .in-byte .result in
+    power-some (l .left) w (a .val) (omega arith)
+
+cast-put-bits-3 : tie.Need-cast-put-bits-3 Inv-loop μ-loop
+cast-put-bits-3 c =
+    let k = c .before in
+    let l = k .before .before .loop in
+    let s = k .before .before .before .before in
+    let a = s .args in
+    let w = k .in-byte .result in
+    record { fits = piece-byte (l .left) w (a .val) (omega arith) }
+
+put-bits-requires : tie.Need-put-bits-requires Inv-loop μ-loop
+put-bits-requires c κs =
+    let k = c .before in
+    let l = k .before .before .loop in
+    let s = k .before .before .before .before in
+    let a = s .args in
+    let w = k .in-byte .result in (
       omega arith,
-      mask-lt (a .val / 2 ^ (a .len - 1 - j)) 1,
-      ap (λ (x : List ℕ). getD x (a .at + j) 0) (k .loop .inv .4)
-          ∙ paste-rest u (a .at) (bits (a .len) (a .val)) j (omega (arith, length-unpack (a .buf .now))) (omega (arith, length-bits (a .len) (a .val)))
-          ∙ k .before .before .pre .1 .zeros (a .at + j) (omega arith),
+      omega arith,
+      piece-lt (l .left) w (a .val) (omega arith),
+      piece-free (a .buf .now) (l .buf) (a .at) (l .p) (a .len) (l .left) w (a .val) (s .pre .1) (l .inv .2) (omega arith) (omega arith),
     )
 
-add-j : tie.Need-add-j Inv-loop μ-loop
-add-j c = search needs
+add-p : tie.Need-add-p Inv-loop μ-loop
+add-p c =
+    let k = c .before .before .before .before in
+    let l = k .before .before .loop in
+    let s = k .before .before .before .before in
+    let a = s .args in
+    let w = k .in-byte .result in
+    record { fits = piece-room (a .buf .now) (l .buf) (a .at) (l .p) (a .len) (l .left) w (a .val) (s .pre .1) (l .inv .2) (omega arith) (omega arith) }
+
+sub-left : tie.Need-sub-left Inv-loop μ-loop
+sub-left c = search needs
 
 loop-less : tie.Need-loop-less Inv-loop μ-loop
 loop-less c = search needs
 
 loop-again : tie.Need-loop-again Inv-loop μ-loop
 loop-again c =
-    let k = c .before .before .before .before .before in
-    let a = k .before .before .args in
-    let j = k .loop .j in
-    let u = unpack (a .buf .now) in
-    let v = bitAnd (a .val / 2 ^ (a .len - 1 - j)) 1 in
-    let e : v ≡ getD (bits (a .len) (a .val)) j 0 = and-mask (a .val / 2 ^ (a .len - 1 - j)) 1 ∙ sym (getD-bits (a .len) (a .val) j (omega arith)) in (
+    let k = c .before .before .before .before in
+    let l = k .before .before .loop in
+    let s = k .before .before .before .before in
+    let a = s .args in
+    let w = k .in-byte .result in (
       omega arith,
-      c .before .before .put-bit .kept .0 ∙ k .loop .inv .1,
-      k .loop .inv .2,
-      k .loop .inv .3,
-      c .before .before .put-bit .ensures ∙ ap₂ (λ (x : List ℕ) (b : ℕ). set x (a .at + j) b) (k .loop .inv .4) e
-          ∙ paste-suc u (a .at) (bits (a .len) (a .val)) j 0 (omega (arith, length-unpack (a .buf .now))) (omega (arith, length-bits (a .len) (a .val)))
-          ∙ ap (paste u (a .at) (bits (a .len) (a .val))) (sym (add-one j)),
+      c .before .before .put-bits .kept .0 ∙ l .inv .1,
+      piece-next (a .buf .now) (l .buf) (a .at) (l .p) (a .len) (l .left) w (a .val) (s .pre .1) (l .inv .2) (omega arith) (omega arith) _ (c .before .before .put-bits .ensures),
     )
 
 same-length : tie.Need-same-length Inv-loop μ-loop
 same-length c = search needs
 
-add-result : tie.Need-add-result Inv-loop μ-loop
-add-result c = search needs
-
 returns : tie.Need-returns Inv-loop μ-loop
 returns c =
+    let l = c .before .loop in
     let a = c .before .before .before .args in
-    let u = unpack (a .buf .now) in
-    let e : c .before .loop .j ≡ a .len = omega arith in
-    append-field (a .buf .now) (c .before .loop .buf) (a .at) (a .len) (a .val)
-    (c .before .loop .inv .4 ∙ ap (paste u (a .at) (bits (a .len) (a .val))) e
-    ∙ ap (λ (x : List ℕ). take (a .at) u ++ x ++ drop (a .at + a .len) u) (take-all (a .len) (bits (a .len) (a .val)) (omega (arith, length-bits (a .len) (a .val)))))
+    pieces-end (a .buf .now) (l .buf) (a .at) (l .p) (a .len) (l .left) (a .val) (l .inv .2) (omega arith)
 
 pub append-bits-spec : {M : Type 1} → statement M
 append-bits-spec =
@@ -107,16 +114,18 @@ append-bits-spec =
     Inv-loop
     μ-loop
     loop-holds
-    add-put-bit
-    sub-put-bit
-    sub-put-bit-2
-    cast-put-bit
-    shr-put-bit
-    cast-put-bit-2
-    put-bit-requires
-    add-j
+    in-byte-requires
+    sub-put-bits
+    cast-put-bits
+    shr-put-bits
+    cast-put-bits-2
+    shl-put-bits
+    rem-put-bits
+    cast-put-bits-3
+    put-bits-requires
+    add-p
+    sub-left
     loop-less
     loop-again
-    add-result
     same-length
     returns)

@@ -17,7 +17,7 @@ number-requires : tie.Need-number-requires Inv-loop μ-loop
 number-requires c κs = search needs
 
 returns : tie.Need-returns Inv-loop μ-loop
-returns c = search (none, needs)
+returns c = none _ _ (c .before .number .ensures) (search needs)
 
 add-numalign : tie.Need-add-numalign Inv-loop μ-loop
 add-numalign c = search needs
@@ -70,7 +70,9 @@ loop-again c =
     )
 
 returns-2 : tie.Need-returns-2 Inv-loop μ-loop
-returns-2 c = search (stored-end, needs)
+returns-2 c =
+    let b = c .before .before in
+    stored-end (b .before .before .number .result) (c .before .loop .result) (b .before .if1 .left) (c .before .loop .i) _ (c .before .loop .inv .0) (omega arith) (omega arith) (b .before .before .number .ensures)
 
 pub get-alignment-pattern-positions-spec : {M : Type 1} → statement M
 get-alignment-pattern-positions-spec =

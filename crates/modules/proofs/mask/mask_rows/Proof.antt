@@ -1,64 +1,60 @@
 -- `mask_rows` works out twelve rows of the mask.
 -- Assumes nothing.
-use Prim.Native.Nat.{_-_, _*_, _≤_, _<_}
+use Prim.Native.Nat.{_-_, _*_, _≤_}
 use mathlib.Core.Path.{_≡_, refl}
-use mathlib.Core.Logic.{⊎-elim}
 use native.Mathlib.Omega.{arith}
 use borrow.Author.Needs.{needs}
 use lib.ListN.{length}
-use Rattle.laws.specs.Each.{eachDone, each-start, each-next, each-end}
-use Rattle.modules.specs.MaskRows.{inRow, At, at-start, at-turn, at-next, at-column, at-row, in-row, in-row-before}
+use Rattle.laws.specs.Each.{eachDone}
+use Rattle.modules.specs.MaskRows.{inRow, row-room, rows-start, rows-next, rows-end}
 use Rattle.modules.proofs.mask.mask_rows.Statement.{statement}
 use Rattle.modules.proofs.mask.mask_rows.Tie as tie
 
 abbrev Inv-loop : tie.InvT-loop
-Inv-loop rows₀ size mask x₀ y₀ k₀ k-end rows x y k = (rows ≡ eachDone k (inRow mask size) rows₀) × At size x y k × (k ≤ k-end) × (length rows ≡ k-end) × (k-end ≡ 12 * size)
+Inv-loop rows₀ size mask y₀ rows y = (rows ≡ eachDone (y * size) (inRow mask size) rows₀) × (y ≤ 12) × (length rows ≡ 12 * size)
 
 abbrev μ-loop : tie.MeasureT-loop
-μ-loop rows₀ size mask x₀ y₀ k₀ k-end rows x y k = k-end - k
+μ-loop rows₀ size mask y₀ rows y = 12 - y
 
 loop-holds : tie.Need-loop-holds Inv-loop μ-loop
-loop-holds c = (search (each-start, needs), search (at-start, needs), search needs, search needs, search needs)
+loop-holds c = (search (rows-start, needs), search needs, search needs)
 
-place-of-requires : tie.Need-place-of-requires Inv-loop μ-loop
-place-of-requires c κs = (
-  (search needs, search (at-column, needs), search (at-row, needs), search needs),
-  λ far.
-      let b = c .before .before .before .before .args in
-      let l = c .before .before .loop in
-      let less : l .k < length (l .rows) = search needs in
-      in-row-before (b .size) (b .mask) (l .x) (l .y) (l .k) (length (l .rows)) (b .rows .now) (l .rows) (l .inv .0) (l .inv .1) refl less far,
-)
+mul-at : tie.Need-mul-at Inv-loop μ-loop
+mul-at c =
+    let a = c .before .before .before .args in
+    record { fits = omega (arith, row-room (a .size) (c .before .loop .y) (12 * a .size) (search needs) refl) }
 
-slice-write-rows : tie.Need-slice-write-rows Inv-loop μ-loop
-slice-write-rows c = search needs
+add-end : tie.Need-add-end Inv-loop μ-loop
+add-end c =
+    let a = c .before .before .before .args in
+    record { fits = omega (arith, row-room (a .size) (c .before .loop .y) (12 * a .size) (search needs) refl) }
 
-add-x : tie.Need-add-x Inv-loop μ-loop
-add-x c = record { fits = omega (arith, at-column _ _ _ _ (c .before .before .before .loop .inv .1) (c .before .before .before .before .before .pre .2)) }
+sub-mask-row : tie.Need-sub-mask-row Inv-loop μ-loop
+sub-mask-row c = search needs
+
+part-mask-row-start : tie.Need-part-mask-row-start Inv-loop μ-loop
+part-mask-row-start c = search needs
+
+part-mask-row-end : tie.Need-part-mask-row-end Inv-loop μ-loop
+part-mask-row-end c = search (row-room, needs)
+
+mask-row-requires : tie.Need-mask-row-requires Inv-loop μ-loop
+mask-row-requires c κs = search needs
 
 add-y : tie.Need-add-y Inv-loop μ-loop
-add-y c = let low : c .before .before .before .before .loop .y < 177 = search (at-row, needs) in record { fits = omega arith }
-
-add-k : tie.Need-add-k Inv-loop μ-loop
-add-k c = search needs
+add-y c = search needs
 
 loop-less : tie.Need-loop-less Inv-loop μ-loop
 loop-less c = search needs
 
 loop-again : tie.Need-loop-again Inv-loop μ-loop
-loop-again c = (
-  search (in-row, each-next, needs),
-  ⊎-elim (λ w. search (at-turn, needs)) (λ w. search (at-next, needs)) (c .if1 .came),
-  search needs,
-  search needs,
-  search needs,
-)
+loop-again c = (search (rows-next, needs), search needs, search needs)
 
 same-length : tie.Need-same-length Inv-loop μ-loop
 same-length c = search needs
 
 returns : tie.Need-returns Inv-loop μ-loop
-returns c = search (each-end, needs)
+returns c = search (rows-end, needs)
 
 pub mask-rows-spec : {M : Type 1} → statement M
 mask-rows-spec =
@@ -67,11 +63,13 @@ mask-rows-spec =
     Inv-loop
     μ-loop
     loop-holds
-    place-of-requires
-    slice-write-rows
-    add-x
+    mul-at
+    add-end
+    sub-mask-row
+    part-mask-row-start
+    part-mask-row-end
+    mask-row-requires
     add-y
-    add-k
     loop-less
     loop-again
     same-length
