@@ -14,10 +14,6 @@ use Rattle.laws.specs.Lists.{is-tabulate, length-bits, length-unpack}
 use Rattle.bits.specs.PackedLaws.{value-bits}
 use Rattle.bits.specs.Fields.{field, Binary, field-split, field-lt}
 
-pub bytes-append : (a b : List ℕ) → Bytes a → Bytes b → Bytes (a ++ b)
-bytes-append [] b ha hb = hb
-bytes-append (x ∷ a) b ha hb = (ha .0, bytes-append a b (ha .1) hb)
-
 pub bytes-of : (l : List ℕ) → ((i : ℕ) → i < length l → getD l i 0 < 256) → Bytes l
 bytes-of [] h = tt
 bytes-of (x ∷ l) h = (h 0 (omega arith), bytes-of l (λ i b. h (suc i) (omega arith)))
@@ -26,11 +22,6 @@ pub bytes-at : (l : List ℕ) → Bytes l → (i : ℕ) → i < length l → get
 bytes-at [] h i b = absurd (not-suc-le-zero b)
 bytes-at (x ∷ l) h zero b = h .0
 bytes-at (x ∷ l) h (suc i) b = bytes-at l (h .1) i (le-of-suc-le-suc b)
-
-pub bytes-take : (n : ℕ) (l : List ℕ) → Bytes l → Bytes (take n l)
-bytes-take zero l h = tt
-bytes-take (suc n) [] h = tt
-bytes-take (suc n) (x ∷ l) h = (h .0, bytes-take n l (h .1))
 
 -- ---- bytes, unpacked and packed
 

@@ -9,9 +9,9 @@ use Rattle.standard.specs.Sizes.{checkBytes, blocks, dataCodewords}
 use Rattle.standard.specs.Field.{Bytes, Divisible, generator, check}
 use Rattle.standard.specs.Blocks.{blockLength, blockStart, block, dataBlocks, checkBlocks, allWords}
 use Rattle.counts.specs.Ranges.{PairRange, pair-range}
-use Rattle.field.specs.Polynomials.{bytes-take, bytes-drop}
+use Rattle.field.specs.Polynomials.{bytes-drop}
 use Rattle.field.specs.Division.{length-check, codeword, only-codeword}
-use Rattle.laws.specs.Lists.{getD-tabulate, map-from}
+use Rattle.laws.specs.Lists.{getD-tabulate, map-from, bytes-take}
 use Rattle.blocks.specs.Undo.{dataOf, undo}
 
 -- data block i, and its check bytes

@@ -27,6 +27,3 @@ module _ (v word s : ℕ) (g h ws : List ℕ) (e : h ≡ paint (side v) (formats
 
   pub columns-drawn : HeldColumns (side v) g ws → s ≡ side v → HeldColumns s h ws
   columns-drawn o q = rw (q, e) (columns-alike (side v) g (paint (side v) (formats (side v) word) g) ws (alike (side v) word g (sq .size)) o)
-
-pub square-size : (s n : ℕ) (g : List ℕ) → Square g n → s ≡ n → length g ≡ s * s
-square-size s n g sq q = rw q (sq .size)

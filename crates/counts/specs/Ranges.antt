@@ -1,9 +1,10 @@
 -- Sizes in their ranges, at all 40 versions and all 160 pairs of version and level: one computed test each.
 -- Assumes nothing.
-use Prim.Native.Nat.{ℕ, suc, _+_, _-_, _*_, _≤_, _<_}
+use Prim.Native.Nat.{ℕ, suc, _+_, _-_, _*_, _/_, _≤_, _<_}
 use mathlib.Core.Bool.{Bool, false}
 use mathlib.Core.List.{List, [], _∷_}
 use mathlib.Core.Path.{_≡_}
+use native.Mathlib.Omega.{arith}
 use lib.Dec.{T, leb, ltb, eqb, leb→le, ltb→lt, eqb→eq}
 use lib.ListN.{length, getD}
 use Rattle.standard.specs.Numbers.{every}
@@ -115,3 +116,11 @@ pub capacity-falls : (v l : ℕ) → 1 ≤ v → v ≤ 40 → l < 3 → capacity
 unfolding fallsTest
 capacity-falls v l low high h =
     ltb→lt _ _ (below (fallsTest v) 3 (at-version (λ v. among 0 3 (fallsTest v)) falls-all v low high) l h)
+
+-- ---- buffers of the largest version's size have room
+
+pub words-fit : (v n : ℕ) → n ≡ rawModules v → 1 ≤ v → v ≤ 40 → n / 8 ≤ 3706
+words-fit v n e low high = let r : VersionRange v = version-range v low high in let m = r .most in omega arith
+
+pub data-fit : (v l n : ℕ) → n ≡ dataCodewords v l → 1 ≤ v → v ≤ 40 → l ≤ 3 → n ≤ 2956
+data-fit v l n e low high h = let r : PairRange v l = pair-range v l low high h in let m = r .words in omega arith

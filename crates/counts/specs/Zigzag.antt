@@ -51,7 +51,7 @@ pub height-lt : (s p w : ℕ) → w < s → height s p w < s
 unfolding height
 height-lt s p w h = flip-lt (eqb (p % 2) 0) s w h
 
-height-height : (s p w : ℕ) → w < s → height s p (height s p w) ≡ w
+pub height-height : (s p w : ℕ) → w < s → height s p (height s p w) ≡ w
 unfolding height
 height-height s p w h = flip-flip (eqb (p % 2) 0) s w h
 

@@ -16,16 +16,13 @@ use Rattle.standard.specs.Choice.{chosen}
 use Rattle.standard.specs.Plan.{refusal}
 use Rattle.standard.specs.Encode.{Return, refused, accepted, refuse, drawn, draw}
 use Rattle.laws.specs.Grid.{Square}
-use Rattle.counts.specs.Ranges.{VersionRange, version-range, PairRange, pair-range}
+use Rattle.counts.specs.Ranges.{VersionRange, version-range}
 
 -- the first n are zero
 abbrev pub zeros : ℕ → List ℕ → List ℕ
 zeros n s = replicate n 0 ++ drop n s
 
 -- ---- all codewords, in a local array
-
-pub words-fit : (v n : ℕ) → n ≡ rawModules v → 1 ≤ v → v ≤ 40 → n / 8 ≤ 3706
-words-fit v n e low high = let r : VersionRange v = version-range v low high in let m = r .most in omega arith
 
 pub words-few : (v : ℕ) → 1 ≤ v → v ≤ 40 → rawCodewords v ≤ 4096
 unfolding rawCodewords
@@ -40,9 +37,6 @@ words-room v n a e h = length-take-le (n / 8 - 0) a (omega arith) ∙ same
     same = rw e (omega arith)
 
 -- ---- data codewords, in a local array
-
-pub data-fit : (v l n : ℕ) → n ≡ dataCodewords v l → 1 ≤ v → v ≤ 40 → l ≤ 3 → n ≤ 2956
-data-fit v l n e low high h = let r : PairRange v l = pair-range v l low high h in let m = r .words in omega arith
 
 take-zeros : (n m : ℕ) → n ≤ m → take {A = ℕ} n (replicate m 0) ≡ replicate n 0
 take-zeros zero m h = refl

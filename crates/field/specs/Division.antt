@@ -11,8 +11,9 @@ use lib.ListN.{length, getD, take, length-append, length-replicate, replicate-ap
 use lib.Seq.{take-suc, append-snoc}
 use lib.Bits.{bitXor, xor-zero-r, xor-lt}
 use Rattle.standard.specs.Field.{times, Bytes, zeros, plus, scale, product, Divisible, generator, step, divide, remainder, divisor, check}
+use Rattle.laws.specs.Lists.{bytes-append}
 use Rattle.field.specs.Times.{times-one-l}
-use Rattle.field.specs.Polynomials.{length-plus, length-scale, length-snoc, getD-plus, getD-scale, getD-snoc0, bytes-plus, bytes-scale, bytes-append, bytes-zeros, cons, plus-zeros-r, plus-zeros-l, plus-self, plus-zz, plus-cancel, plus-assoc, plus-append, plus-eq-zero, scale-zero, length-product, product-plus}
+use Rattle.field.specs.Polynomials.{length-plus, length-scale, length-snoc, getD-plus, getD-scale, getD-snoc0, bytes-plus, bytes-scale, bytes-zeros, cons, plus-zeros-r, plus-zeros-l, plus-self, plus-zz, plus-cancel, plus-assoc, plus-append, plus-eq-zero, scale-zero, length-product, product-plus}
 use Rattle.field.specs.Generator.{divisor-generator, length-divisor, bytes-divisor}
 
 -- ---- lengths and coefficients of a step

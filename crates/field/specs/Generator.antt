@@ -12,8 +12,9 @@ use lib.Bits.{bitXor, xor-zero-r, xor-comm}
 use lib.Dec.{lit<}
 use Rattle.standard.specs.Field.{times, power, Bytes, zeros, plus, scale, product, generator, divisor}
 use Rattle.laws.specs.Front.{front, front-suc, front-all, front-rest}
+use Rattle.laws.specs.Lists.{bytes-append}
 use Rattle.field.specs.Times.{times-zero-l}
-use Rattle.field.specs.Polynomials.{length-plus, length-scale, length-snoc, bytes-plus, bytes-scale, bytes-append, plus-zeros-r, scale-one}
+use Rattle.field.specs.Polynomials.{length-plus, length-scale, length-snoc, bytes-plus, bytes-scale, plus-zeros-r, scale-one}
 
 -- p (x - r)
 unfoldable pub byRoot : ℕ → List ℕ → List ℕ

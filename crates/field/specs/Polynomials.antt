@@ -5,7 +5,7 @@ use mathlib.Core.List.{List, [], _∷_, _++_, head-eq-of-cons-eq, tail-eq-of-con
 use Prim.Native.Nat.{ℕ, zero, suc, _+_, _<_}
 use native.Mathlib.Nat.{suc-inj, suc-ne-zero, zero-lt-suc}
 use native.Mathlib.Omega.{arith}
-use lib.ListN.{length, getD, take, drop, length-append, length-replicate}
+use lib.ListN.{length, getD, drop, length-append, length-replicate}
 use lib.Bits.{bitXor, xor-zero-r, xor-comm, xor-self, xor-lt}
 use Rattle.standard.specs.Field.{times, Bytes, zeros, plus, scale, product}
 use Rattle.laws.specs.Xor.{xor-assoc, xor4, xor-cancel, xor-eq-zero}
@@ -65,15 +65,6 @@ pub bytes-scale : (c : ℕ) (p : List ℕ) → Bytes p → Bytes (scale c p)
 unfolding scale
 bytes-scale c [] h = tt
 bytes-scale c (a ∷ p) h = (times-lt a c (h .0), bytes-scale c p (h .1))
-
-pub bytes-append : (p q : List ℕ) → Bytes p → Bytes q → Bytes (p ++ q)
-bytes-append [] q h k = k
-bytes-append (a ∷ p) q h k = (h .0, bytes-append p q (h .1) k)
-
-pub bytes-take : (n : ℕ) (p : List ℕ) → Bytes p → Bytes (take n p)
-bytes-take zero p h = tt
-bytes-take (suc n) [] h = tt
-bytes-take (suc n) (a ∷ p) h = (h .0, bytes-take n p (h .1))
 
 pub bytes-drop : (n : ℕ) (p : List ℕ) → Bytes p → Bytes (drop n p)
 bytes-drop zero p h = h

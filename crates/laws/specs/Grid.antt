@@ -13,6 +13,7 @@ use lib.Seq.{ext-getD, getD-set-same, getD-set-other}
 use lib.Arith.{digits-div, digits-mod, digits-lt}
 use lib.Dec.{ltb, eqb}
 use Rattle.standard.specs.Numbers.{tabulate}
+use Rattle.standard.specs.Sizes.{side}
 use Rattle.laws.specs.Tests.{compared, cond-and}
 use Rattle.laws.specs.Lists.{length-tabulate, getD-tabulate}
 use borrow.Author.Tests.{lt-ltb, le-ltb, eq-eqb, ne-eqb, ltb-true, ltb-false, eqb-true}
@@ -194,6 +195,13 @@ pub record Square (g : List ℕ) (side : ℕ) : Type 0 where
 
 pub square-small : (side : ℕ) → side ≤ 177 → side * side ≤ 31329
 square-small side h = mul-le-mul h h
+
+pub area-small : (v s : ℕ) → s ≡ side v → v ≤ 40 → s * s ≤ 31329
+area-small v s e high = let k : s ≤ 177 = omega arith in square-small s k
+
+-- by the side as a number
+pub square-size : (s n : ℕ) (g : List ℕ) → Square g n → s ≡ n → length g ≡ s * s
+square-size s n g sq q = rw q (sq .size)
 
 -- two patterns, one after the other
 abbrev pub then : Pattern → Pattern → Pattern

@@ -1,17 +1,18 @@
--- Laws on the definition's words for lists: from, tabulate, every, same, bits.
+-- Laws on the definition's words for lists: from, tabulate, every, same, place, Bytes, bits.
 -- Assumes nothing.
 use Prim.Native.Nat.{ℕ, zero, suc, _+_, _*_, _≤_, _<_}
-use mathlib.Core.Bool.{Bool, true}
+use mathlib.Core.Bool.{Bool, true, false, _&&_}
 use mathlib.Core.List.{List, [], _∷_, _++_, map}
 use mathlib.Core.Path.{_≡_, refl, sym, ap, ap₂, _∙_}
 use native.Mathlib.Nat.{not-suc-le-zero, le-of-suc-le-suc, add-zero, add-suc, suc-add, zero-add}
 use native.Mathlib.Omega.{arith}
 use lib.Dec.{T, eqb, eqb→eq}
-use lib.ListN.{length, getD, replicate, length-append}
+use lib.ListN.{length, getD, take, replicate, length-append}
 use lib.Seq.{ext-getD}
-use borrow.Author.Tests.{eq-eqb}
-use Rattle.standard.specs.Numbers.{from, tabulate, every, same}
+use borrow.Author.Tests.{eq-eqb, ne-eqb}
+use Rattle.standard.specs.Numbers.{from, tabulate, every, same, place}
 use Rattle.standard.specs.Bits.{bits, unpack}
+use Rattle.standard.specs.Field.{Bytes}
 use Rattle.laws.specs.Tests.{and-left, and-right, and-pair, and-both}
 
 -- ---- from and tabulate
@@ -85,7 +86,42 @@ pub same-refl : (xs : List ℕ) → same xs xs ≡ true
 same-refl [] = refl
 same-refl (x ∷ xs) = and-both (eqb x x) (same xs xs) (eq-eqb x x refl) (same-refl xs)
 
--- ---- zeros, and what lies behind them
+pub unequal : (xs ys : List ℕ) → (length xs ≡ length ys → ⊥) → false ≡ same xs ys
+unequal [] [] n = absurd (n refl)
+unequal [] (y ∷ ys) n = refl
+unequal (x ∷ xs) [] n = refl
+unequal (x ∷ xs) (y ∷ ys) n = go (eqb x y) (unequal xs ys (λ e. n (ap suc e)))
+  where
+    go : (b : Bool) → false ≡ same xs ys → false ≡ b && same xs ys
+    go true e = e
+    go false e = refl
+
+-- ---- place
+
+module _ (c y : ℕ) (l : List ℕ) where
+  pub place-cons : (c ≡ y → ⊥) → place c (y ∷ l) ≡ suc (place c l)
+  place-cons h = ap (λ (t : Bool). elim t as (λ _. ℕ) [ true ↦ 0 | false ↦ suc (place c l) ]) (ne-eqb c y h)
+
+  pub place-head : c ≡ y → place c (y ∷ l) ≡ 0
+  place-head h = ap (λ (t : Bool). elim t as (λ _. ℕ) [ true ↦ 0 | false ↦ suc (place c l) ]) (eq-eqb c y h)
+
+-- ---- bytes
+
+pub bytes-append : (p q : List ℕ) → Bytes p → Bytes q → Bytes (p ++ q)
+bytes-append [] q h k = k
+bytes-append (a ∷ p) q h k = (h .0, bytes-append p q (h .1) k)
+
+pub bytes-take : (n : ℕ) (p : List ℕ) → Bytes p → Bytes (take n p)
+bytes-take zero p h = tt
+bytes-take (suc n) [] h = tt
+bytes-take (suc n) (a ∷ p) h = (h .0, bytes-take n p (h .1))
+
+-- ---- past the end, and zeros
+
+pub past : (xs : List ℕ) (i : ℕ) → length xs ≤ i → getD xs i 0 ≡ 0
+past [] i h = refl
+past (x ∷ xs) zero h = absurd (not-suc-le-zero h)
+past (x ∷ xs) (suc i) h = past xs i (le-of-suc-le-suc h)
 
 pub zeros-at : (n i : ℕ) → getD (replicate {A = ℕ} n 0) i 0 ≡ 0
 zeros-at zero i = refl

@@ -49,6 +49,15 @@ pub and-second : (a b : Bool) → a && b ≡ true → b ≡ true
 and-second true b e = e
 and-second false b e = absurd (true≢false (sym e))
 
+pub and-no : (a b : Bool) → b ≡ false → a && b ≡ false
+and-no true b e = e
+and-no false b e = refl
+
+pub all4 : (x y z w : Bool) → (x && (y && (z && w))) ≡ true → (x ≡ true) × (y ≡ true) × (z ≡ true) × (w ≡ true)
+all4 x y z w e =
+    let b = and-second x (y && (z && w)) e in let c = and-second y (z && w) b in
+    (and-first x (y && (z && w)) e, and-first y (z && w) b, and-first z w c, and-second z w c)
+
 -- ---- or
 
 pub or-first : (a b : Bool) → a ≡ true → a || b ≡ true

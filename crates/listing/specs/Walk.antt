@@ -11,19 +11,10 @@ use lib.ListN.{length, getD, drop, drop-of-length-le}
 use lib.Seq.{drop-cons}
 use borrow.Author.Tests.{eq-eqb, ne-eqb, lt-ltb, le-ltb}
 use Rattle.standard.specs.Numbers.{same}
+use Rattle.laws.specs.Lists.{unequal}
 use Rattle.listing.specs.Shown.{modulesOf, hexDigit, hexOf, digestAfter, digestOf}
 
 -- lists of two lengths are not the same
-unequal : (a b : List ℕ) → (length a ≡ length b → ⊥) → false ≡ same a b
-unequal [] [] n = absurd (n refl)
-unequal [] (y ∷ ys) n = refl
-unequal (x ∷ xs) [] n = refl
-unequal (x ∷ xs) (y ∷ ys) n = go (eqb x y) (unequal xs ys (λ e. n (ap suc e)))
-  where
-    go : (b : Bool) → false ≡ same xs ys → false ≡ b && same xs ys
-    go true e = e
-    go false e = refl
-
 and-assoc : (a b c : Bool) → (a && b) && c ≡ a && (b && c)
 and-assoc true b c = refl
 and-assoc false b c = refl

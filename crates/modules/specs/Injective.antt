@@ -8,7 +8,7 @@ use mathlib.Core.Path.{_≡_, refl, sym, ap, ap₂, _∙_, subst}
 use native.Mathlib.Nat.{not-suc-le-zero, le-of-suc-le-suc, eq-or-lt-of-le, mod-lt, div-lt-iff-lt-mul, div-add-mod'}
 use native.Mathlib.Omega.{arith}
 use lib.Arith.{digits-lt}
-use lib.Dec.{leb, ltb, eqb}
+use lib.Dec.{leb, ltb}
 use lib.ListN.{length, getD, replicate, length-append}
 use borrow.Author.Tests.{le-leb, lt-leb, eq-eqb, ltb-true, ltb-false}
 use Rattle.standard.specs.Numbers.{consIf}
@@ -18,7 +18,7 @@ use Rattle.standard.specs.Functions.{isFunction}
 use Rattle.standard.specs.Path.{right, height, cell, free}
 use Rattle.laws.specs.Tests.{split}
 use Rattle.counts.specs.Free.{path-length}
-use Rattle.counts.specs.Zigzag.{cell-lt, height-lt}
+use Rattle.counts.specs.Zigzag.{cell-lt, height-lt, height-height}
 use Rattle.modules.specs.Zigzag.{Laid, Laid.laid, readAt, walk, collected, listOf, usedOf, pathLength, path-count, cell-of, read-bit, read-function}
 use Rattle.modules.specs.Zeroed.{Low, shifted-back, reading, reading-suc, reading-low, reading-length}
 use Rattle.modules.specs.Way.{test, places, places-suc, places-more, places-path}
@@ -107,14 +107,6 @@ record Passed (s i : ℕ) : Type 0 where
   inside : at < pathLength s
   is : cell s at ≡ i
 
-height-twice : (s p y : ℕ) → y < s → height s p (height s p y) ≡ y
-unfolding height
-height-twice s p y h = go (eqb (p % 2) 0)
-  where
-    go : (b : Bool) → cond b (s - 1 - cond b (s - 1 - y) y) (cond b (s - 1 - y) y) ≡ y
-    go true = omega arith
-    go false = refl
-
 module _ (h s i : ℕ) (odd : s ≡ 2 * h + 1) (big : 4 ≤ h) (below : i < s * s) where
   row : i / s < s
   row = div-lt-iff-lt-mul {k = s} {x = i} {y = s} (omega arith) .1 below
@@ -127,7 +119,7 @@ module _ (h s i : ℕ) (odd : s ≡ 2 * h + 1) (big : 4 ≤ h) (below : i < s * 
       record {
         at = (p * s + w) * 2 + j;
         inside = rw half (digits-lt (digits-lt less hw) two);
-        is = cell-of s p w j hw two ∙ ap₂ (λ (a b : ℕ). a * s + b) (height-twice s p (i / s) row) e ∙ div-add-mod' i s;
+        is = cell-of s p w j hw two ∙ ap₂ (λ (a b : ℕ). a * s + b) (height-height s p (i / s) row) e ∙ div-add-mod' i s;
       }
 
   right-is : (p r : ℕ) (b : Bool) → s - 1 - 2 * p ≡ r → leb r 6 ≡ b → right s p ≡ cond b (r - 1) r

@@ -11,7 +11,7 @@ use lib.ListN.{length, getD, replicate}
 use borrow.Author.Tests.{eqb-true, ne-eqb, le-leb, lt-leb, leb-false}
 use Rattle.standard.specs.Numbers.{one, sum, tabulate}
 use Rattle.standard.specs.Penalty.{runsFrom, runs, coreCount, coreAt, cores, bordered}
-use Rattle.laws.specs.Tests.{and-first, and-second}
+use Rattle.laws.specs.Tests.{and-no, all4}
 use Rattle.laws.specs.Sums.{sum-cong, sum-shift}
 use Rattle.penalty.specs.Scan.{Modules, zeros-run}
 use Rattle.penalty.specs.Windows.{is}
@@ -62,10 +62,6 @@ double = 2 ∷ 2 ∷ 6 ∷ 2 ∷ 2 ∷ []
 abbrev triple : List ℕ
 triple = 3 ∷ 3 ∷ 9 ∷ 3 ∷ 3 ∷ []
 
-and-no : (a b : Bool) → b ≡ false → (a && b) ≡ false
-and-no true b e = e
-and-no false b e = refl
-
 fits-few : (ks : List ℕ) (l : ℕ) (rs : List ℕ) → length rs ≤ length ks → fits ks l rs ≡ false
 unfolding fits
 fits-few [] l [] h = refl
@@ -110,11 +106,6 @@ none true true = refl
 none true false = refl
 none false true = refl
 none false false = refl
-
-all4 : (x y z w : Bool) → (x && (y && (z && w))) ≡ true → (x ≡ true) × (y ≡ true) × (z ≡ true) × (w ≡ true)
-all4 x y z w e =
-    let b = and-second x (y && (z && w)) e in let c = and-second y (z && w) b in
-    (and-first x (y && (z && w)) e, and-first y (z && w) b, and-first z w c, and-second z w c)
 
 -- a core needs its unit of light on both sides
 sides : (n p q : ℕ) → one (leb n p && leb n q) ≡ 0 → one (leb (4 * n) p && leb n q) + one (leb (4 * n) q && leb n p) ≡ 0

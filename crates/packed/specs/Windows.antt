@@ -12,6 +12,7 @@ use lib.ListN.{replicate}
 use borrow.Author.Tests.{eqb-true, eqb-false, eq-eqb, le-leb, lt-leb, leb-true, leb-false}
 use Rattle.standard.specs.Numbers.{one}
 use Rattle.standard.specs.Penalty.{runsFrom}
+use Rattle.laws.specs.Tests.{and-no}
 use Rattle.penalty.specs.Scan.{Modules}
 use Rattle.packed.specs.Runs.{grown}
 use Rattle.packed.specs.Marks.{pre, hits}
@@ -198,10 +199,6 @@ border-left (suc k) zero qs ys h = absurd (omega arith)
 border-left k (suc n) qs ys h =
     ⊎-elim (λ (e : k ≡ suc n). ap (λ (m : ℕ). hits (replicate k 0 ++ (1 ∷ qs)) (replicate m 0 ++ ys)) (sym e))
     (λ (l : k < suc n). rw (too-many k (suc n) qs ys l) (omega (arith, border-left k n qs ys (le-of-suc-le-suc l)))) (eq-or-lt-of-le h)
-
-and-no : (a b : Bool) → b ≡ false → (a && b) ≡ false
-and-no true b e = e
-and-no false b e = refl
 
 has-one : (rs zs : List ℕ) (b : ℕ) → pre (rs ++ (1 ∷ zs)) (replicate b 0) ≡ false
 unfolding pre

@@ -12,7 +12,6 @@ use Rattle.standard.specs.Bits.{unpack}
 use Rattle.laws.specs.Lists.{length-unpack}
 use Rattle.bits.specs.Fields.{field}
 use Rattle.segments.specs.Kinds.{size, base, width}
-use Rattle.segments.specs.Tables.{width-le}
 use Rattle.segments.specs.Runs.{part, size-pos, part-pos, part-less}
 use Rattle.parser.specs.declared.Groups.{Groups}
 use Rattle.parser.specs.declared.Groups.the-variants.{Next, Fault}
@@ -77,9 +76,6 @@ pub run-done : (k : ℕ) (buf : List ℕ) (A : Groups) (p n : ℕ) → A ≡ run
 unfolding runEnd
 run-done k buf A p zero e h = sym e
 run-done k buf A p (suc n) e h = absurd (omega arith)
-
-pub width-32 : (k m w : ℕ) → w ≡ width k m → w ≤ 32
-width-32 k m w e = omega (arith, width-le k m)
 
 -- the same of a full group
 pub part-full : (k n m : ℕ) → m ≡ size k → m ≤ n → m ≡ part k n

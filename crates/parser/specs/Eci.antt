@@ -11,10 +11,10 @@ use lib.ListN.{length, drop}
 use Rattle.standard.specs.Bits.{bits}
 use Rattle.standard.specs.Kinds.{eciBits}
 use Rattle.laws.specs.Tests.{cond-true, cond-false}
-use Rattle.bits.specs.Fields.{field, Binary, field-hit, field-rest, field-room, field-split, field-lt}
+use Rattle.bits.specs.Fields.{field, Binary, field-hit, field-rest, field-room, field-split, field-lt, bits-add}
 use Rattle.parser.specs.declared.Eci.{Eci}
 use Rattle.parser.specs.declared.Eci.the-variants.{Value, Long, Fault}
-use Rattle.segments.specs.Eci.{bits-split, small-bits, middle-bits, large-bits}
+use Rattle.segments.specs.Eci.{small-bits, middle-bits, large-bits}
 use Rattle.parser.specs.Choices.{cond-inv}
 
 -- ---- read
@@ -45,7 +45,7 @@ eciAt u at = cond (leb (at + 8) (length u)) (eciBy u at (field u at 8)) (Fault a
 first-eight : (u : List ℕ) (at w v : ℕ) (r : List ℕ) → drop at u ≡ bits (8 + w) v ++ r → v / 2 ^ w < 256 → field u at 8 ≡ v / 2 ^ w
 first-eight u at w v r e h =
     field-hit u at 8 (v / 2 ^ w) (bits w v ++ r)
-    (e ∙ ap (λ (l : List ℕ). l ++ r) (bits-split 8 w v) ∙ append-assoc (bits 8 (v / 2 ^ w)) (bits w v) r) h
+    (e ∙ ap (λ (l : List ℕ). l ++ r) (bits-add 8 w v) ∙ append-assoc (bits 8 (v / 2 ^ w)) (bits w v) r) h
 
 -- ---- what is written is read
 pub record FoundEci (u : List ℕ) (at n : ℕ) (r : List ℕ) : Type 0 where

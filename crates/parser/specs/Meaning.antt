@@ -35,7 +35,7 @@ part-at [] i d h = absurd (not-suc-le-zero h)
 part-at (p ∷ ps) zero d h = refl
 part-at (p ∷ ps) (suc i) d h = part-at ps i d (le-of-suc-le-suc h) ∙ sym (part-later p (numbersOf ps) i)
 
-length-numbers : (ps : List Part) → length (numbersOf ps) ≡ 4 * length ps
+pub length-numbers : (ps : List Part) → length (numbersOf ps) ≡ 4 * length ps
 length-numbers [] = refl
 length-numbers (p ∷ ps) = let e = length-numbers ps in omega arith
 

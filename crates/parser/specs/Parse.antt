@@ -119,7 +119,7 @@ pub record Wrote (v : ℕ) (u : List ℕ) (at : ℕ) (ss : List Segment) : Type 
   pub bits : drop at u ≡ stream v ss ++ tailBits (length u) (at + length (stream v ss))
   pub high : at + length (stream v ss) ≤ length u
 
-same-list : (a b : List Segment) → _≡_ {A = Parsed} (read a) (read b) → a ≡ b
+pub same-list : (a b : List Segment) → _≡_ {A = Parsed} (read a) (read b) → a ≡ b
 same-list a b e = cc
 
 not-bad : {A : Type 0} (b : ℕ) (ss : List Segment) → _≡_ {A = Parsed} (bad b) (read ss) → A

@@ -19,7 +19,7 @@ use Rattle.bits.specs.Bytes.{same-bytes}
 use Rattle.counts.specs.Stream.{stream-length}
 use Rattle.segments.specs.Words.{lengths-fit}
 use Rattle.parser.specs.Tail.{tailBits}
-use Rattle.parser.specs.Parse.{Parsed, read, parseFrom, parse-complete, parse-sound, Wrote}
+use Rattle.parser.specs.Parse.{Parsed, read, parseFrom, parse-complete, parse-sound, Wrote, same-list}
 use Rattle.parser.specs.Words.{data-bits, data-bytes, data-length}
 use Rattle.parser.specs.Few.{few-bits}
 
@@ -75,10 +75,7 @@ parse-only v l ws ss hb hl e =
           (data-bits v l ss room ∙ ap₂ (λ (k j : ℕ). stream v ss ++ tailBits k j) (sym long) (sym z) ∙ sym (w .bits)));
     }
 
-same-read : (a b : List Segment) → _≡_ {A = Parsed} (read a) (read b) → a ≡ b
-same-read a b e = cc
-
 -- two fitting lists with the same data codewords mean the same
 pub no-two-lists : (v l : ℕ) (a b : List Segment) → T (every goodSegment a) → T (every goodSegment b) → T (fits l a v) → T (fits l b v)
     → dataWords v l a ≡ dataWords v l b → a ≡ b
-no-two-lists v l a b ga gb fa fb e = same-read a b (sym (parse-encoded v l a ga fa) ∙ ap (parse v) e ∙ parse-encoded v l b gb fb)
+no-two-lists v l a b ga gb fa fb e = same-list a b (sym (parse-encoded v l a ga fa) ∙ ap (parse v) e ∙ parse-encoded v l b gb fb)

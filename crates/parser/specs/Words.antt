@@ -14,9 +14,9 @@ use Rattle.standard.specs.Kinds.{modeBits, countWidth, eciBits}
 use Rattle.standard.specs.Segments.{Segment, payload, segmentBits, stream}
 use Rattle.standard.specs.Codewords.{terminated, filled, padByte, padded, dataWords}
 use Rattle.standard.specs.Field.{Bytes}
-use Rattle.laws.specs.Lists.{length-from, length-tabulate}
+use Rattle.laws.specs.Lists.{length-from, length-tabulate, bytes-append}
 use Rattle.bits.specs.Fields.{Binary, binary-append, binary-bits}
-use Rattle.bits.specs.Bytes.{bytes-append, bytes-pack, unpack-append, unpack-pack, zero-bits}
+use Rattle.bits.specs.Bytes.{bytes-pack, unpack-append, unpack-pack, zero-bits}
 use Rattle.segments.specs.Kinds.{width, groupNumber}
 use Rattle.segments.specs.Runs.{part, runBits}
 use Rattle.segments.specs.Payload.{segment, payload-run}

@@ -16,7 +16,7 @@ use Rattle.standard.specs.Grid.{grid}
 use Rattle.standard.specs.Penalty.{penalty}
 use Rattle.standard.specs.Choice.{lowest, placeOfLeast, scores, chosen}
 use Rattle.laws.specs.Tests.{compared}
-use Rattle.laws.specs.Lists.{length-tabulate, getD-tabulate}
+use Rattle.laws.specs.Lists.{length-tabulate, getD-tabulate, past}
 
 -- ---- the least number of a list
 

@@ -10,9 +10,9 @@ use lib.ListN.{length, getD}
 use Rattle.standard.specs.Numbers.{from, tabulate}
 use Rattle.standard.specs.Penalty.{moduleOf, row, column}
 use Rattle.laws.specs.Tests.{split}
-use Rattle.laws.specs.Lists.{length-tabulate, getD-tabulate, from-cong}
+use Rattle.laws.specs.Lists.{length-tabulate, getD-tabulate, from-cong, past}
 use Rattle.laws.specs.Each.{each}
-use Rattle.penalty.specs.Scan.{Modules, past}
+use Rattle.penalty.specs.Scan.{Modules}
 use Rattle.penalty.specs.Windows.{is}
 
 -- the colour of a byte of a work grid is its lowest digit

@@ -3,7 +3,7 @@
 use mathlib.Core.Path.{_≡_, refl, sym, ap, _∙_, subst}
 use mathlib.Core.List.{List, [], _∷_, _++_, append-assoc}
 use mathlib.Core.Bool.{Bool, true, false, cond, _&&_}
-use Prim.Native.Nat.{ℕ, zero, suc, _+_, _*_, _≤_, _<_}
+use Prim.Native.Nat.{ℕ, zero, suc, _+_, _*_, _<_}
 use native.Mathlib.Nat.{not-suc-le-zero, le-of-suc-le-suc, add-zero, add-comm}
 use native.Mathlib.Omega.{arith}
 use lib.Dec.{leb, ltb, eqb}
@@ -12,8 +12,8 @@ use lib.Seq.{append-snoc}
 use borrow.Author.Tests.{eqb-true, eqb-false, eq-eqb, ne-eqb, lt-ltb, ltb-true}
 use Rattle.standard.specs.Numbers.{one}
 use Rattle.standard.specs.Penalty.{runsFrom, runs, coreCount, cores, bordered}
-use Rattle.laws.specs.Tests.{and-first, and-second}
-use Rattle.laws.specs.Lists.{getD-tabulate}
+use Rattle.laws.specs.Tests.{all4}
+use Rattle.laws.specs.Lists.{getD-tabulate, past}
 use Rattle.penalty.specs.History.{six, push, patterns, ended, coresFrom}
 use Rattle.penalty.specs.Windows.{is, rev, length-rev, dark-run, few-runs, light-run, window}
 
@@ -28,11 +28,6 @@ Kept h back = (k : ℕ) → k < 7 → getD h k 0 ≡ getD back k 0
 
 abbrev pub Positive : List ℕ → Type 0
 Positive back = (k : ℕ) → k < length back → 0 < getD back k 0
-
-all4 : (x y z w : Bool) → (x && (y && (z && w))) ≡ true → (x ≡ true) × (y ≡ true) × (z ≡ true) × (w ≡ true)
-all4 x y z w e =
-    let b = and-second x (y && (z && w)) e in let c = and-second y (z && w) b in
-    (and-first x (y && (z && w)) e, and-first y (z && w) b, and-first z w c, and-second z w c)
 
 -- seven runs are five of a core from either end
 mirror : (p n b c d e q : ℕ)
@@ -92,11 +87,6 @@ positive-push back r p q zero l = p
 positive-push back r p q (suc i) l = q i (le-of-suc-le-suc l)
 
 -- past the end of a list
-pub past : (xs : List ℕ) (i : ℕ) → length xs ≤ i → getD xs i 0 ≡ 0
-past [] i l = refl
-past (x ∷ xs) zero l = absurd (not-suc-le-zero l)
-past (x ∷ xs) (suc i) l = past xs i (le-of-suc-le-suc l)
-
 light-few : (h back : List ℕ) (r : ℕ) → length back < 5 → Kept h back → cores (rev (r ∷ back)) ≡ cores (rev back) + patterns (r ∷ six h)
 unfolding rev
 light-few h back r l k =

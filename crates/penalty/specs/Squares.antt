@@ -76,9 +76,6 @@ module _ (a t k n : ℕ) where
   pub least-end : n ≤ k → k ≡ least k (n - k) (λ k. leb a ((k + 1) * t))
   least-end h = sym (ap (λ (m : ℕ). least k m (fair a t)) (is (n - k) 0 (omega arith)))
 
-pub side-square : (s : ℕ) → s ≤ 177 → s * s ≤ 31329
-side-square s h = mul-le-mul h h
-
 pub fits : (k t : ℕ) → k < 10 → t ≤ 31329 → (k + 1) * t ≤ 313290
 fits k t h l = let e : k + 1 ≤ 10 = omega arith in mul-le-mul e l
 

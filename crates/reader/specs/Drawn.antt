@@ -26,7 +26,7 @@ use Rattle.modules.specs.Back.{readGrid, readWords, read-bytes}
 use Rattle.modules.specs.Same.{agreeTo, drawn-test}
 use Rattle.types.specs.declared.QrCodeEcc.{QrCodeEcc}
 use Rattle.types.specs.Numbers.{levelOf}
-use Rattle.segments.specs.Words.{level-le}
+use Rattle.types.specs.Laws.{level-le}
 use Rattle.reader.specs.Labels.{all-bytes}
 use Rattle.reader.specs.Recovered.{dataRead}
 

@@ -3,13 +3,12 @@
 use Prim.Native.Nat.{ℕ, _+_, _-_, _*_, _/_, _≤_}
 use mathlib.Core.List.{List, _++_}
 use mathlib.Core.Path.{_≡_, refl, sym, ap, ap₂, _∙_, subst}
-use native.Mathlib.Nat.{mul-le-mul}
 use native.Mathlib.Omega.{arith}
 use lib.ListN.{length, take, drop, replicate, length-replicate, length-append, length-take, length-drop, replicate-append-replicate}
 use lib.Seq.{drop-append-add, drop-drop, take-at}
 use Rattle.standard.specs.Sizes.{side, rawModules, rawCodewords, dataCodewords}
 use Rattle.standard.specs.Encode.{zeroed}
-use Rattle.laws.specs.Grid.{Square}
+use Rattle.laws.specs.Grid.{Square, area-small}
 use Rattle.modules.specs.Work.{Small}
 use Rattle.types.specs.declared.Version.{Version}
 use Rattle.types.specs.declared.QrCodeEcc.{QrCodeEcc}
@@ -45,9 +44,6 @@ pub data-part : (v n : ℕ) (ecl : QrCodeEcc) (xs : List ℕ) → n ≡ dataCode
 data-part v n ecl xs e low high h = part-long n (dataCodewords v (levelOf ecl)) xs (omega (arith, data-fits v n ecl e low high)) e
 
 -- ---- scratch
-
-pub area-small : (v s : ℕ) → s ≡ side v → v ≤ 40 → s * s ≤ 31329
-area-small v s e high = let k : s ≤ 177 = omega arith in mul-le-mul k k
 
 pub area-square : (v s : ℕ) (xs : List ℕ) → s ≡ side v → v ≤ 40 → 40_000 ≤ length xs → Square (take (s * s - 0) xs) (side v)
 area-square v s xs e high h =

@@ -12,6 +12,7 @@ use Rattle.standard.specs.Read.{Read, Finds, Reads}
 use Rattle.laws.specs.Lists.{getD-tabulate, is-tabulate}
 use Rattle.segments.specs.Records.{partOf, partAt, partsOf, parts-length}
 use Rattle.parser.specs.Written.{numbersOf}
+use Rattle.parser.specs.Meaning.{length-numbers}
 use Rattle.reader.specs.declared.Outcome.{Outcome}
 use Rattle.reader.specs.Answers.{readOf}
 use Rattle.reader.specs.Theorems.{read-unique}
@@ -69,14 +70,10 @@ parts-after (suc n) (p ∷ ps) (a ∷ b ∷ c ∷ d ∷ q) e h =
     ∙ ap (λ (l : List Part). p ∷ l) (parts-after n ps q (omega arith) (omega arith))
     ∙ ap (λ (l : List Part). p ∷ (ps ++ drop (suc n) l)) (sym (parts-cons a b c d q))
 
-numbers-long : (ps : List Part) → length (numbersOf ps) ≡ 4 * length ps
-numbers-long [] = refl
-numbers-long (p ∷ ps) = let e = numbers-long ps in omega arith
-
 pub rest-after : (n : ℕ) (ps : List Part) (q : List ℕ) → length ps ≡ n → n ≤ length q / 4 → Rest q (numbersOf ps ++ drop (4 * n) q)
 rest-after n ps q e h =
     let k : ℕ = 4 * (length q / 4) - 4 * n in
-    let far : 4 * (length q / 4) ≡ length (numbersOf ps) + k = omega (arith, numbers-long ps) in
+    let far : 4 * (length q / 4) ≡ length (numbersOf ps) + k = omega (arith, length-numbers ps) in
     let back : 4 * n + k ≡ 4 * (length q / 4) = omega arith in
     ap (λ (i : ℕ). drop i (numbersOf ps ++ drop (4 * n) q)) far ∙ drop-append-add (numbersOf ps) (drop (4 * n) q) k ∙ drop-drop k (4 * n) q ∙ ap (λ (i : ℕ). drop i q) back
 

@@ -19,13 +19,13 @@ use Rattle.laws.specs.Lists.{same-eq, same-refl}
 use Rattle.counts.specs.Ranges.{version-range, pair-range}
 use Rattle.types.specs.declared.QrCodeEcc.{QrCodeEcc}
 use Rattle.types.specs.Numbers.{levelOf}
-use Rattle.segments.specs.Words.{level-le}
 use Rattle.segments.specs.Records.{partsOf}
 use Rattle.blocks.specs.Undo.{dataOf}
 use Rattle.blocks.specs.Theorems.{data-back}
 use Rattle.modules.specs.FormatBack.{readLevel, readMask}
 use Rattle.modules.specs.Back.{readWords}
 use Rattle.modules.specs.Reading.{Drawable, read-drawn}
+use Rattle.types.specs.Laws.{level-le}
 use Rattle.reader.specs.declared.Outcome.{Outcome}
 use Rattle.reader.specs.declared.Outcome.the-variants.{Refused}
 use Rattle.reader.specs.declared.Refusal.the-variants.{NoLabel}

@@ -4,11 +4,8 @@ use mathlib.Core.Path.{_≡_, ap, _∙_}
 use mathlib.Core.List.{List}
 use Prim.Native.Nat.{ℕ, _*_, _≤_}
 use lib.ListN.{length}
-use Rattle.laws.specs.Grid.{Square, paint, length-paint}
+use Rattle.laws.specs.Grid.{Square, paint, length-paint, square-size}
 use Rattle.modules.specs.Mask.{masked}
-
-pub square-size : (s n : ℕ) (g : List ℕ) → Square g n → s ≡ n → length g ≡ s * s
-square-size s n g sq q = rw q (sq .size)
 
 pub kept-size : (s n : ℕ) (g h : List ℕ) → length h ≡ length g → Square g n → s ≡ n → length h ≡ s * s
 kept-size s n g h e sq q = e ∙ square-size s n g sq q

@@ -1,28 +1,24 @@
 -- Facts that the proofs of the comparison cite: there is room in a zeroed buffer, and what the answers say.
 -- Assumes nothing.
 use Prim.Native.Nat.{ℕ, _*_, _/_, _^_, _≤_, _<_}
-use mathlib.Core.Bool.{Bool, true, false, cond, _&&_}
-use mathlib.Core.Path.{_≡_, refl, sym, ap, _∙_, subst}
+use mathlib.Core.Bool.{Bool, true}
+use mathlib.Core.Path.{_≡_, sym, ap, _∙_, subst}
 use mathlib.Core.List.{List, [], _++_, append-nil}
 use native.Mathlib.Omega.{arith}
-use lib.Dec.{T, leb, lit<}
+use lib.Dec.{T, lit<}
 use lib.ListN.{length, drop, replicate, drop-of-length-le}
-use borrow.Author.Tests.{leb-true}
 use Rattle.standard.specs.Numbers.{every}
 use Rattle.standard.specs.Kinds.{digitBits, pairBits, byteBits, eciBits}
 use Rattle.standard.specs.Sizes.{dataCodewords}
 use Rattle.standard.specs.Segments.{payload, goodPart, firstBad}
-use Rattle.laws.specs.Tests.{true-T, and-first, and-second}
+use Rattle.laws.specs.Tests.{true-T}
 use Rattle.counts.specs.Ranges.{pair-range}
 use Rattle.types.specs.declared.QrCodeEcc.{QrCodeEcc}
-use Rattle.types.specs.declared.Version.{Version}
-use Rattle.types.specs.declared.NewVersion.{NewVersion}
-use Rattle.types.specs.declared.NewVersion.the-variants.{Some, None}
-use Rattle.types.specs.Numbers.{levelOf, IsVersion, newVersion}
+use Rattle.types.specs.Numbers.{levelOf}
 use Rattle.bits.specs.Appended.{Free, free-zeros}
 use Rattle.segments.specs.Fit.{payload-short}
 use Rattle.segments.specs.Records.{partsOf, parts-length, all-good}
-use Rattle.segments.specs.Words.{level-le}
+use Rattle.types.specs.Laws.{level-le}
 
 -- ---- room
 
@@ -62,19 +58,6 @@ capacity-fits v n ecl e low high = omega (arith, pair-range v (levelOf ecl) low 
 
 pub all-of : (p : ℕ → Bool) (t : List ℕ) (b : Bool) → b ≡ every p t → b ≡ true → T (every p t)
 all-of p t b e q = true-T (every p t) (sym e ∙ q)
-
-pub some-version : (n : ℕ) (o : NewVersion) (v : Version) → o ≡ newVersion n → o ≡ Some v → IsVersion v
-unfolding newVersion
-some-version n o v e q = go (leb 1 n && leb n 40) refl (sym e ∙ q)
-  where
-    go : (b : Bool) → leb 1 n && leb n 40 ≡ b → cond b (Some (record { 0 = n })) None ≡ Some v → IsVersion v
-    go true t e =
-        let r : _≡_ {A = Version} (record { 0 = n }) v = cc in
-        let s : n ≡ v .0 = ap (λ (x : Version). x .0) r in
-        let a : 1 ≤ n = leb-true 1 n (and-first (leb 1 n) (leb n 40) t) in
-        let b : n ≤ 40 = leb-true n 40 (and-second (leb 1 n) (leb n 40) t) in
-        (omega arith, omega arith)
-    go false t e = let z : _≡_ {A = ℕ} 0 1 = cc in absurd (omega arith)
 
 pub good-of : (text ns : List ℕ) (f c : ℕ) → f ≡ firstBad text (partsOf ns) → c ≡ length ns / 4 → c ≤ f → T (every (goodPart text) (partsOf ns))
 good-of text ns f c e q h = all-good text (partsOf ns) (omega (arith, parts-length ns))

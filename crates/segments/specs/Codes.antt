@@ -1,7 +1,6 @@
 -- Laws that the proofs of the functions on codes of characters and numbers of groups cite.
 -- Assumes nothing.
 use Prim.Native.Nat.{ℕ, zero, suc, _+_, _-_, _*_, _^_, _≤_, _<_}
-use mathlib.Core.Bool.{Bool, true, false}
 use mathlib.Core.Path.{_≡_, refl, sym, ap, ap₂, _∙_, subst}
 use mathlib.Core.List.{List, [], _∷_, _++_}
 use native.Mathlib.Omega.{arith}
@@ -10,13 +9,12 @@ use native.Mathlib.Numerals.{add-one}
 use lib.Arith.{digits-lt}
 use lib.Pow.{pow-mono}
 use lib.Dec.{T, leb, leb→le, ltb→lt}
-use borrow.Author.Tests.{eq-eqb, ne-eqb}
 use lib.ListN.{length, getD, take, drop, length-drop}
 use lib.Seq.{drop-cons, take-suc, getD-drop}
 use Rattle.standard.specs.Numbers.{place, every}
 use Rattle.standard.specs.Kinds.{alphabet, code, isDigit, isAlphanumeric, allowed}
 use Rattle.laws.specs.Tests.{and-left}
-use Rattle.laws.specs.Lists.{every-at}
+use Rattle.laws.specs.Lists.{every-at, place-cons, place-head}
 use Rattle.segments.specs.Kinds.{length-alphabet, size, base, width, codeOf, charOf, limit, groupNumber, code-lt}
 use Rattle.segments.specs.Tables.{width-le}
 
@@ -24,12 +22,6 @@ use Rattle.segments.specs.Tables.{width-le}
 pub place-start : (c : ℕ) → code c ≡ 0 + place c (drop 0 alphabet)
 unfolding code
 place-start c = omega arith
-
-place-cons : (c y : ℕ) (l : List ℕ) → (c ≡ y → ⊥) → place c (y ∷ l) ≡ suc (place c l)
-place-cons c y l h = ap (λ (t : Bool). elim t as (λ _. ℕ) [ true ↦ 0 | false ↦ suc (place c l) ]) (ne-eqb c y h)
-
-place-head : (c y : ℕ) (l : List ℕ) → c ≡ y → place c (y ∷ l) ≡ 0
-place-head c y l h = ap (λ (t : Bool). elim t as (λ _. ℕ) [ true ↦ 0 | false ↦ suc (place c l) ]) (eq-eqb c y h)
 
 char-alphabet : (i : ℕ) → charOf 1 i ≡ getD alphabet i 0
 unfolding charOf

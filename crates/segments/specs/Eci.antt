@@ -1,37 +1,20 @@
 -- The bits of an ECI number: as one field, and appended.
 -- Assumes nothing.
-use Prim.Native.Nat.{ℕ, zero, suc, _+_, _/_, _%_, _^_, _≤_, _<_}
+use Prim.Native.Nat.{ℕ, _+_, _/_, _%_, _^_, _≤_, _<_}
 use mathlib.Core.Bool.{cond}
 use mathlib.Core.Path.{_≡_, sym, ap, ap₂, _∙_, subst}
 use mathlib.Core.List.{List, _∷_, _++_}
 use native.Mathlib.Omega.{arith}
-use native.Mathlib.Nat.{div-div-eq-div-mul, mul-add-mod-self-right, suc-add, zero-add, mul-comm}
+use native.Mathlib.Nat.{mul-add-mod-self-right}
 use lib.Dec.{ltb}
-use lib.Pow.{pow-add}
 use borrow.Author.Tests.{lt-ltb, le-ltb}
-use Rattle.standard.specs.Bits.{bits, valueFrom}
+use Rattle.standard.specs.Bits.{bits}
 use Rattle.standard.specs.Kinds.{eciBits}
 use Rattle.laws.specs.Tests.{cond-true, cond-false}
-use Rattle.laws.specs.Lists.{length-bits}
-use Rattle.bits.specs.PackedLaws.{value-bits}
-use Rattle.bits.specs.Fields.{binary-bits, bits-value}
+use Rattle.bits.specs.Fields.{bits-low}
 use Rattle.bits.specs.Appended.{Free, Appended, first-free, second-free, both-done}
 
-pub bits-split : (a b v : ℕ) → bits (a + b) v ≡ bits a (v / 2 ^ b) ++ bits b v
-unfolding bits
-bits-split zero b v = ap (λ (k : ℕ). bits k v) (zero-add b)
-bits-split (suc a) b v =
-    let e : v / 2 ^ (a + b) ≡ v / 2 ^ b / 2 ^ a
-    = ap (λ (k : ℕ). v / k) (pow-add 2 a b ∙ mul-comm (2 ^ a) (2 ^ b)) ∙ sym (div-div-eq-div-mul v (2 ^ b) (2 ^ a)) in
-    ap (λ (k : ℕ). bits k v) (suc-add a b)
-    ∙ ap₂ (λ (x : ℕ) (l : List ℕ). (x % 2) ∷ l) e (bits-split a b v)
-
 -- only the low bits count
-pub bits-mod : (w v : ℕ) → bits w (v % 2 ^ w) ≡ bits w v
-bits-mod w v =
-    let e : valueFrom 0 (bits w v) ≡ v % 2 ^ w = value-bits 0 w v ∙ omega arith in
-    ap₂ (λ (k n : ℕ). bits k n) (sym (length-bits w v)) (sym e) ∙ bits-value 0 (bits w v) (binary-bits w v)
-
 two : (n : ℕ) → n < 16_384 → 1 ∷ 0 ∷ bits 14 n ≡ bits 16 (32_768 + n)
 unfolding bits
 two n h =
@@ -40,7 +23,7 @@ two n h =
     let a : 1 ≡ (32_768 + n) / 2 ^ 15 % 2 = sym (ap (λ (k : ℕ). k % 2) aq) in
     let bq : (32_768 + n) / 2 ^ 14 ≡ 2 = omega arith in
     let b : 0 ≡ (32_768 + n) / 2 ^ 14 % 2 = sym (ap (λ (k : ℕ). k % 2) bq) in
-    let low : bits 14 n ≡ bits 14 (32_768 + n) = sym (bits-mod 14 n) ∙ ap (bits 14) (sym e) ∙ bits-mod 14 (32_768 + n) in
+    let low : bits 14 n ≡ bits 14 (32_768 + n) = sym (bits-low 14 n) ∙ ap (bits 14) (sym e) ∙ bits-low 14 (32_768 + n) in
     ap₂ (λ (x : ℕ) (l : List ℕ). x ∷ l) a (ap₂ (λ (x : ℕ) (l : List ℕ). x ∷ l) b low)
 
 three : (n : ℕ) → n < 2_097_152 → 1 ∷ 1 ∷ 0 ∷ bits 21 n ≡ bits 24 (12_582_912 + n)
@@ -53,7 +36,7 @@ three n h =
     let b : 1 ≡ (12_582_912 + n) / 2 ^ 22 % 2 = sym (ap (λ (k : ℕ). k % 2) bq) in
     let cq : (12_582_912 + n) / 2 ^ 21 ≡ 6 = omega arith in
     let c : 0 ≡ (12_582_912 + n) / 2 ^ 21 % 2 = sym (ap (λ (k : ℕ). k % 2) cq) in
-    let low : bits 21 n ≡ bits 21 (12_582_912 + n) = sym (bits-mod 21 n) ∙ ap (bits 21) (sym e) ∙ bits-mod 21 (12_582_912 + n) in
+    let low : bits 21 n ≡ bits 21 (12_582_912 + n) = sym (bits-low 21 n) ∙ ap (bits 21) (sym e) ∙ bits-low 21 (12_582_912 + n) in
     ap₂ (λ (x : ℕ) (l : List ℕ). x ∷ l) a (ap₂ (λ (x : ℕ) (l : List ℕ). x ∷ l) b (ap₂ (λ (x : ℕ) (l : List ℕ). x ∷ l) c low))
 
 -- ---- by size

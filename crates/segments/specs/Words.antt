@@ -4,7 +4,7 @@ use Prim.Native.Nat.{ℕ, _+_, _*_, _/_, _%_, _^_, _≤_, _<_}
 use mathlib.Core.Path.{_≡_, sym, ap, ap₂, _∙_, subst}
 use mathlib.Core.List.{List, _++_}
 use native.Mathlib.Omega.{arith}
-use lib.Dec.{T, leb, leb→le, lit≤}
+use lib.Dec.{T, leb, leb→le}
 use lib.ListN.{length, take, drop, replicate, length-append, length-replicate}
 use lib.Seq.{take-at}
 use Rattle.standard.specs.Bits.{pack, unpack}
@@ -13,20 +13,12 @@ use Rattle.standard.specs.Segments.{Segment, stream, totalBits, lengthsFit, fit
 use Rattle.standard.specs.Codewords.{padded, dataWords}
 use Rattle.standard.specs.Field.{Bytes}
 use Rattle.laws.specs.Tests.{and-left, and-right}
+use Rattle.laws.specs.Lists.{bytes-take}
 use Rattle.counts.specs.Ranges.{pair-range}
 use Rattle.counts.specs.Stream.{stream-length}
-use Rattle.types.specs.declared.QrCodeEcc.{QrCodeEcc}
-use Rattle.types.specs.declared.QrCodeEcc.the-variants.{Low, Medium, Quartile, High}
-use Rattle.types.specs.Numbers.{levelOf}
-use Rattle.bits.specs.Bytes.{bytes-take, pack-unpack, unpack-take}
+use Rattle.bits.specs.Bytes.{pack-unpack, unpack-take}
 use Rattle.bits.specs.Appended.{Free, Appended, appended-length, free-then, free-zeros, append-then}
 use Rattle.segments.specs.Ends.{endWidth, fillWidth, endBits, filled-is, end-length, fill-up, fill-inside}
-
-pub level-le : (ecl : QrCodeEcc) → levelOf ecl ≤ 3
-level-le Low = lit≤ tt
-level-le Medium = lit≤ tt
-level-le Quartile = lit≤ tt
-level-le High = lit≤ tt
 
 pub lengths-fit : (v l : ℕ) (ss : List Segment) → T (fits l ss v) → T (lengthsFit v ss)
 unfolding fits

@@ -1,23 +1,19 @@
 -- Laws for the loops and the returns that make the picture.
 -- Assumes nothing.
-use Prim.Native.Nat.{ℕ, zero, suc, _+_, _-_, _*_, _/_, _^_, _≤_, _<_}
+use Prim.Native.Nat.{ℕ, _+_, _-_, _*_, _/_, _^_, _≤_, _<_}
 use mathlib.Core.Bool.{Bool, cond}
 use mathlib.Core.List.{List, [], _∷_}
 use mathlib.Core.Path.{_≡_, refl, sym, ap, ap₂, _∙_}
-use native.Mathlib.Nat.{le-of-suc-le-suc, mul-le-mul}
+use native.Mathlib.Nat.{mul-le-mul}
 use native.Mathlib.Omega.{arith}
 use lib.ListN.{length, getD, set}
 use borrow.Author.Tests.{lt-ltb, le-ltb, le-leb, lt-leb, eq-eqb, ne-eqb}
+use Rattle.laws.specs.Lists.{past}
 use Rattle.terminal.specs.Text.{bytes, Said}
 use Rattle.terminal.specs.TextLaws.{said-as, said-none, said-one, said-then, said-set, said-next}
 use Rattle.terminal.specs.Picture.{shown, half, glyph, characters, line, lines, picture}
 
 -- ---- a module of the picture
-
-getD-past : (l : List ℕ) (i : ℕ) → length l ≤ i → getD l i 0 ≡ 0
-getD-past [] i h = refl
-getD-past (x ∷ xs) zero h = absurd (omega (arith, h))
-getD-past (x ∷ xs) (suc i) h = getD-past xs i (le-of-suc-le-suc h)
 
 module _ (side : ℕ) (g : List ℕ) (x y : ℕ) where
   pub shown-left : x < 4 → 0 ≡ shown side g x y
@@ -36,7 +32,7 @@ module _ (side : ℕ) (g : List ℕ) (x y : ℕ) where
   shown-inside a b c d = rw (le-ltb x 4 a, le-ltb y 4 b, lt-leb (side + 4) x c, lt-leb (side + 4) y d)
 
   pub shown-outside : 4 ≤ x → 4 ≤ y → x < side + 4 → y < side + 4 → length g ≤ (y - 4) * side + (x - 4) → 0 ≡ shown side g x y
-  shown-outside a b c d h = sym (getD-past g ((y - 4) * side + (x - 4)) h) ∙ shown-inside a b c d
+  shown-outside a b c d h = sym (past g ((y - 4) * side + (x - 4)) h) ∙ shown-inside a b c d
 
 small : (side y : ℕ) → side ≤ 177 → y ≤ 186 → (y - 4) * side ≤ 186 * 177
 small side y a b = let r : y - 4 ≤ 186 = omega arith in mul-le-mul r a

@@ -11,6 +11,7 @@ use lib.ListN.{length, getD, take, drop, length-take, length-drop, drop-of-lengt
 use lib.Seq.{drop-cons, take-all}
 use borrow.Author.Tests.{lt-ltb, le-ltb, eq-eqb, ne-eqb}
 use Rattle.standard.specs.Numbers.{one, place, same}
+use Rattle.laws.specs.Lists.{place-cons, place-head, unequal}
 use Rattle.terminal.specs.Words.{beginsWith, nextNumber, numberFrom, numberOf, firstOf, lastOf, levelNamed, maskNamed, switchNamed, lineLength}
 
 -- ---- two words
@@ -38,19 +39,8 @@ pub same-end : (a b : List ℕ) (i : ℕ) → same a b ≡ same (drop i a) (drop
 same-end a b i inv l h =
     sym (inv ∙ ap₂ same (drop-of-length-le a {i = i} h) (drop-of-length-le b {i = i} (omega arith)))
 
-pub same-length : (a b : List ℕ) → (length a ≡ length b → ⊥) → false ≡ same a b
-same-length [] [] h = absurd (h refl)
-same-length [] (y ∷ ys) h = refl
-same-length (x ∷ xs) [] h = refl
-same-length (x ∷ xs) (y ∷ ys) h =
-    ap (λ (t : Bool). t) (neither (eqb x y)) ∙ ap (λ (t : Bool). eqb x y && t) (same-length xs ys (λ e. h (ap suc e)))
-  where
-    neither : (t : Bool) → false ≡ t && false
-    neither true = refl
-    neither false = refl
-
 pub begins-short : (t w : List ℕ) → length t < length w → false ≡ beginsWith t w
-begins-short t w h = same-length (take (length w) t) w (λ e. omega (arith, e, length-take (length w) t))
+begins-short t w h = unequal (take (length w) t) w (λ e. omega (arith, e, length-take (length w) t))
 
 pub begins-same : (t w : List ℕ) (r : Bool) → r ≡ same (take (length w - 0) (drop 0 t)) w → r ≡ beginsWith t w
 begins-same t w r e = let n : length w - 0 ≡ length w = omega arith in e ∙ ap (λ (k : ℕ). same (take k t) w) n
@@ -59,12 +49,6 @@ begins-same t w r e = let n : length w - 0 ≡ length w = omega arith in e ∙ a
 
 pub place-start : (c : ℕ) (w : List ℕ) → place c w ≡ 0 + place c (drop 0 w)
 place-start c w = omega arith
-
-place-cons : (c y : ℕ) (l : List ℕ) → (c ≡ y → ⊥) → place c (y ∷ l) ≡ suc (place c l)
-place-cons c y l h = ap (λ (t : Bool). elim t as (λ _. ℕ) [ true ↦ 0 | false ↦ suc (place c l) ]) (ne-eqb c y h)
-
-place-head : (c y : ℕ) (l : List ℕ) → c ≡ y → place c (y ∷ l) ≡ 0
-place-head c y l h = ap (λ (t : Bool). elim t as (λ _. ℕ) [ true ↦ 0 | false ↦ suc (place c l) ]) (eq-eqb c y h)
 
 pub place-hit : (c : ℕ) (w : List ℕ) (i : ℕ) → place c w ≡ i + place c (drop i w) → i < length w → getD w i 0 ≡ c → i ≡ place c w
 place-hit c w i inv h e =

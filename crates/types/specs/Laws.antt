@@ -2,20 +2,23 @@
 -- Assumes nothing.
 use Prim.Native.Nat.{ℕ, _+_, _/_, _≤_, _<_}
 use mathlib.Core.List.{[], _∷_}
-use mathlib.Core.Path.{_≡_, ap, _∙_}
+use mathlib.Core.Bool.{Bool, true, false, cond, _&&_}
+use mathlib.Core.Path.{_≡_, refl, sym, ap, _∙_}
 use native.Mathlib.Omega.{arith}
-use lib.Dec.{lit≤}
+use lib.Dec.{leb, lit≤}
 use lib.ListN.{getD}
-use borrow.Author.Tests.{lt-ltb, le-ltb, le-leb, lt-leb}
+use borrow.Author.Tests.{lt-ltb, le-ltb, le-leb, lt-leb, leb-true}
 use Rattle.standard.specs.Kinds.{byVersion, countWidth}
 use Rattle.laws.specs.Tests.{split}
+use Rattle.types.specs.declared.Version.{Version}
+use Rattle.types.specs.declared.NewVersion.{NewVersion}
 use Rattle.types.specs.declared.NewVersion.the-variants.{Some as SomeVersion, None as NoVersion}
 use Rattle.types.specs.declared.NewMask.the-variants.{Some as SomeMask, None as NoMask}
 use Rattle.types.specs.declared.QrCodeEcc.{QrCodeEcc}
 use Rattle.types.specs.declared.QrCodeEcc.the-variants.{Low, Medium, Quartile, High}
 use Rattle.types.specs.declared.QrSegmentMode.{QrSegmentMode}
 use Rattle.types.specs.declared.QrSegmentMode.the-variants.{Numeric, Alphanumeric, Byte}
-use Rattle.types.specs.Numbers.{levelOf, kindOf, newVersion, newMask}
+use Rattle.types.specs.Numbers.{IsVersion, levelOf, kindOf, newVersion, newMask}
 
 pub version-low : (n a : ℕ) → a ≡ 1 → n < a → NoVersion ≡ newVersion n
 unfolding newVersion
@@ -64,3 +67,23 @@ level-le Low = lit≤ tt
 level-le Medium = lit≤ tt
 level-le Quartile = lit≤ tt
 level-le High = lit≤ tt
+
+pub level-fit : (ecl : QrCodeEcc) (l : ℕ) → l ≡ levelOf ecl → l ≤ 3
+level-fit ecl l e = rw e (level-le ecl)
+
+-- what `new` answers is a version
+module _ (n : ℕ) (k : NewVersion) (v : Version) (e : k ≡ newVersion n) (q : k ≡ SomeVersion v) where
+  pub new-version : IsVersion v
+  unfolding newVersion
+  new-version = go (leb 1 n) refl (leb n 40) refl (sym e ∙ q)
+    where
+      go : (a : Bool) → leb 1 n ≡ a → (b : Bool) → leb n 40 ≡ b → cond (a && b) (SomeVersion (record { 0 = n })) NoVersion ≡ SomeVersion v → IsVersion v
+      go true p true r w = let z : n ≡ v .0 = cc in (omega (arith, leb-true 1 n p), omega (arith, leb-true n 40 r))
+      go true p false r w = let z : _≡_ {A = ℕ} 0 1 = cc in absurd (omega arith)
+      go false p b r w = let z : _≡_ {A = ℕ} 0 1 = cc in absurd (omega arith)
+
+  pub new-low : 1 ≤ v .0
+  new-low = new-version .0
+
+  pub new-high : v .0 ≤ 40
+  new-high = new-version .1

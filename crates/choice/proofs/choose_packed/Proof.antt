@@ -2,8 +2,8 @@
 -- Assumes nothing.
 use native.Mathlib.Omega.{arith}
 use Rattle.packed.specs.Stored.{rows-held, columns-held}
-use Rattle.choice.specs.Lines.{square-size}
 use borrow.Author.Needs.{needs}
+use Rattle.laws.specs.Grid.{square-size}
 use Rattle.choice.proofs.choose_packed.Statement.{statement}
 use Rattle.choice.proofs.choose_packed.Tie as tie
 

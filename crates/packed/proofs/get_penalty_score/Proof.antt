@@ -1,8 +1,8 @@
 -- `packed::get_penalty_score` meets its contract. The four parts are the definition's.
 -- Assumes nothing.
-use Rattle.laws.specs.Grid.{paint, length-paint}
+use Rattle.laws.specs.Grid.{paint, length-paint, square-small}
 use Rattle.modules.specs.Mask.{masked}
-use Rattle.penalty.specs.Squares.{side-square, penalty-parts}
+use Rattle.penalty.specs.Squares.{penalty-parts}
 use Rattle.packed.specs.Rows.{dark-le}
 use native.Mathlib.Omega.{arith}
 use borrow.Author.Needs.{needs}
@@ -25,14 +25,14 @@ mul-total : tie.Need-mul-total
 mul-total c = search needs
 
 cast-total : tie.Need-cast-total
-cast-total c = omega (arith, side-square (c .before .before .before .before .before .before .before .args .side) (omega arith))
+cast-total c = omega (arith, square-small (c .before .before .before .before .before .before .before .args .side) (omega arith))
 
 add-result : tie.Need-add-result
 add-result c = search needs
 
 balance-of-requires : tie.Need-balance-of-requires
 balance-of-requires c κs = let a = c .before .before .before .before .before .before .before .args in
-    (omega (arith, side-square (a .side) (omega arith), dark-le (paint (a .side) (masked (a .msk)) (a .grid .now)) _ (c .before .before .before .rows-of .ensures .2), length-paint (a .side) (masked (a .msk)) (a .grid .now)), omega (arith, side-square (a .side) (omega arith)))
+    (omega (arith, square-small (a .side) (omega arith), dark-le (paint (a .side) (masked (a .msk)) (a .grid .now)) _ (c .before .before .before .rows-of .ensures .2), length-paint (a .side) (masked (a .msk)) (a .grid .now)), omega (arith, square-small (a .side) (omega arith)))
 
 mul-result : tie.Need-mul-result
 mul-result c = search needs

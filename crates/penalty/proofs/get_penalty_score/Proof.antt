@@ -1,6 +1,7 @@
 -- `penalty::get_penalty_score` meets its contract. The four parts are the definition's.
 -- Assumes nothing.
-use Rattle.penalty.specs.Squares.{side-square, penalty-parts}
+use Rattle.laws.specs.Grid.{square-small}
+use Rattle.penalty.specs.Squares.{penalty-parts}
 use native.Mathlib.Omega.{arith}
 use borrow.Author.Needs.{needs}
 use Rattle.penalty.proofs.get_penalty_score.Statement.{statement}
@@ -25,16 +26,16 @@ mul-total : tie.Need-mul-total
 mul-total c = search needs
 
 cast-total : tie.Need-cast-total
-cast-total c = omega (arith, side-square (c .before .before .before .before .args .side) (omega arith))
+cast-total c = omega (arith, square-small (c .before .before .before .before .args .side) (omega arith))
 
 add-result : tie.Need-add-result
 add-result c = search needs
 
 dark-modules-requires : tie.Need-dark-modules-requires
-dark-modules-requires c κs = omega (arith, side-square (c .before .before .before .before .args .side) (omega arith))
+dark-modules-requires c κs = omega (arith, square-small (c .before .before .before .before .args .side) (omega arith))
 
 balance-of-requires : tie.Need-balance-of-requires
-balance-of-requires c κs = omega (arith, side-square (c .before .before .before .before .before .args .side) (omega arith))
+balance-of-requires c κs = omega (arith, square-small (c .before .before .before .before .before .args .side) (omega arith))
 
 mul-result : tie.Need-mul-result
 mul-result c = search needs

@@ -5,7 +5,8 @@ use mathlib.Core.Path.{ap, _∙_}
 use native.Mathlib.Omega.{arith}
 use borrow.Author.Needs.{needs}
 use lib.ListN.{length}
-use Rattle.reader.specs.Entry.{area-small, area-square, zeroed-all, zeroed-length, finds-zeroed}
+use Rattle.laws.specs.Grid.{area-small}
+use Rattle.reader.specs.Entry.{area-square, zeroed-all, zeroed-length, finds-zeroed}
 use Rattle.reader.proofs.read_checked.Statement.{statement}
 use Rattle.reader.proofs.read_checked.Tie as tie
 

@@ -3,7 +3,7 @@
 use mathlib.Core.Path.{refl, _∙_}
 use native.Mathlib.Omega.{arith}
 use borrow.Author.Needs.{needs}
-use Rattle.segments.specs.Words.{level-le}
+use Rattle.types.specs.Laws.{level-le}
 use Rattle.reader.specs.Recovered.{looks-none, looks-told}
 use Rattle.reader.specs.Drawn.{zeros-long, data-long, data-read, told-drawn}
 use Rattle.reader.proofs.read_words.Statement.{statement}

@@ -4,7 +4,8 @@ use Prim.Native.Nat.{_/_, _≤_}
 use native.Mathlib.Omega.{arith}
 use borrow.Author.Needs.{needs}
 use Rattle.types.specs.Laws.{level-le}
-use Rattle.replay_blocks.specs.Fit.{data-fit, raw-fit, raw-is, lent}
+use Rattle.counts.specs.Ranges.{data-fit, words-fit}
+use Rattle.replay_blocks.specs.Fit.{raw-is, lent}
 use Rattle.replay_blocks.proofs.case.Statement.{statement}
 use Rattle.replay_blocks.proofs.case.Tie as tie
 
@@ -30,7 +31,7 @@ part-all-start : tie.Need-part-all-start
 part-all-start c = search needs
 
 part-all-end : tie.Need-part-all-end
-part-all-end c = search (raw-fit, needs)
+part-all-end c = search (words-fit, needs)
 
 sub-compared-3 : tie.Need-sub-compared-3
 sub-compared-3 c = search needs
@@ -48,7 +49,7 @@ compared-requires c κs =
     let r = c .before .before .before .get-num-raw-data-modules in
     let few : d .result ≤ 2956 = data-fit _ _ _ (d .ensures) (omega arith) (omega arith) (level-le (s .args .ecl)) in
     let n = lent 2956 (d .result) _ (d .ensures) few in
-    ((search needs, search needs), (n, n, lent 3706 (r .result / 8) _ (raw-is _ _ (r .ensures)) (raw-fit _ _ (r .ensures) (omega arith) (omega arith))))
+    ((search needs, search needs), (n, n, lent 3706 (r .result / 8) _ (raw-is _ _ (r .ensures)) (words-fit _ _ (r .ensures) (omega arith) (omega arith))))
 
 returns : tie.Need-returns
 returns c = search needs

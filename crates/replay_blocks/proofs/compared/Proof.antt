@@ -3,8 +3,8 @@
 use native.Mathlib.Omega.{arith}
 use borrow.Author.Needs.{needs}
 use Rattle.types.specs.Numbers.{levelOf}
-use Rattle.types.specs.Laws.{level-le}
-use Rattle.replay_blocks.specs.Fit.{level-fit, data-less}
+use Rattle.types.specs.Laws.{level-le, level-fit}
+use Rattle.replay_blocks.specs.Fit.{data-less}
 use Rattle.replay_blocks.proofs.compared.Statement.{statement}
 use Rattle.replay_blocks.proofs.compared.Tie as tie
 

@@ -1,7 +1,7 @@
 -- `replay_blocks::line` is safe and ends.
 -- Assumes nothing.
 use borrow.Author.Needs.{needs}
-use Rattle.replay_blocks.specs.Fit.{version-low, version-high}
+use Rattle.types.specs.Laws.{new-low, new-high}
 use Rattle.replay_blocks.proofs.line.Statement.{statement}
 use Rattle.replay_blocks.proofs.line.Tie as tie
 
@@ -51,7 +51,7 @@ level-requires : tie.Need-level-requires
 level-requires c κs = search needs
 
 case-requires : tie.Need-case-requires
-case-requires c κs = (search (version-low, needs), search (version-high, needs))
+case-requires c κs = (search (new-low, needs), search (new-high, needs))
 
 enum-told : tie.Need-enum-told
 enum-told c = search needs

@@ -2,7 +2,9 @@
 -- Assumes nothing.
 use native.Mathlib.Omega.{arith}
 use borrow.Author.Needs.{needs}
-use Rattle.replay_modules.specs.Fit.{raw-fit, square-fit, lent, lent-square}
+use Rattle.counts.specs.Ranges.{words-fit}
+use Rattle.laws.specs.Grid.{area-small}
+use Rattle.replay_modules.specs.Fit.{lent, lent-square}
 use Rattle.replay_modules.proofs.case.Statement.{statement}
 use Rattle.replay_modules.proofs.case.Tie as tie
 
@@ -10,7 +12,7 @@ size-of-requires : tie.Need-size-of-requires
 size-of-requires c κs = search needs
 
 mul-n : tie.Need-mul-n
-mul-n c = omega (arith, square-fit _ _ (c .size-of .ensures) (omega arith))
+mul-n c = omega (arith, area-small _ _ (c .size-of .ensures) (omega arith))
 
 get-num-raw-data-modules-requires : tie.Need-get-num-raw-data-modules-requires
 get-num-raw-data-modules-requires c κs = search needs
@@ -22,7 +24,7 @@ part-grid-start : tie.Need-part-grid-start
 part-grid-start c = search needs
 
 part-grid-end : tie.Need-part-grid-end
-part-grid-end c = search (square-fit, needs)
+part-grid-end c = search (area-small, needs)
 
 sub-compared-2 : tie.Need-sub-compared-2
 sub-compared-2 c = search needs
@@ -31,7 +33,7 @@ part-work-start : tie.Need-part-work-start
 part-work-start c = search needs
 
 part-work-end : tie.Need-part-work-end
-part-work-end c = search (square-fit, needs)
+part-work-end c = search (area-small, needs)
 
 sub-compared-3 : tie.Need-sub-compared-3
 sub-compared-3 c = search needs
@@ -40,7 +42,7 @@ part-words-start : tie.Need-part-words-start
 part-words-start c = search needs
 
 part-words-end : tie.Need-part-words-end
-part-words-end c = search (raw-fit, needs)
+part-words-end c = search (words-fit, needs)
 
 sub-compared-4 : tie.Need-sub-compared-4
 sub-compared-4 c = search needs
@@ -49,10 +51,10 @@ part-back-start : tie.Need-part-back-start
 part-back-start c = search needs
 
 part-back-end : tie.Need-part-back-end
-part-back-end c = search (raw-fit, needs)
+part-back-end c = search (words-fit, needs)
 
 compared-requires : tie.Need-compared-requires
-compared-requires c κs = let z = c .before .before .before .before .before .size-of .ensures in let r = c .before .before .before .before .get-num-raw-data-modules .ensures in let few = raw-fit _ _ r (omega arith) (omega arith) in (search needs, (lent-square _ _ z (omega arith), (lent-square _ _ z (omega arith), omega (arith, lent 3706 _ few))))
+compared-requires c κs = let z = c .before .before .before .before .before .size-of .ensures in let r = c .before .before .before .before .get-num-raw-data-modules .ensures in let few = words-fit _ _ r (omega arith) (omega arith) in (search needs, (lent-square _ _ z (omega arith), (lent-square _ _ z (omega arith), omega (arith, lent 3706 _ few))))
 
 returns : tie.Need-returns
 returns c = search needs

@@ -1,7 +1,7 @@
 -- `replay_modules::compared` is safe and ends.
 -- Assumes nothing.
 use borrow.Author.Needs.{needs}
-use Rattle.replay_modules.specs.Fit.{level-fit}
+use Rattle.types.specs.Laws.{level-fit}
 use Rattle.replay_modules.proofs.compared.Statement.{statement}
 use Rattle.replay_modules.proofs.compared.Tie as tie
 

@@ -1,7 +1,7 @@
 -- `replay_modules::one` is safe and ends.
 -- Assumes nothing.
 use borrow.Author.Needs.{needs}
-use Rattle.replay_modules.specs.Fit.{version-low, version-high}
+use Rattle.types.specs.Laws.{new-low, new-high}
 use Rattle.replay_modules.proofs.one.Statement.{statement}
 use Rattle.replay_modules.proofs.one.Tie as tie
 
@@ -69,7 +69,7 @@ part-masked-end : tie.Need-part-masked-end
 part-masked-end c = search needs
 
 masked-requires : tie.Need-masked-requires
-masked-requires c κs = (search (version-low, needs), search (version-high, needs))
+masked-requires c κs = (search (new-low, needs), search (new-high, needs))
 
 enum-told : tie.Need-enum-told
 enum-told c = search needs

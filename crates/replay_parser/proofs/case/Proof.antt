@@ -1,7 +1,7 @@
 -- `replay_parser::case` meets its contract.
 -- Assumes nothing.
 use borrow.Author.Needs.{needs}
-use Rattle.replay_parser.specs.Laws.{is-version}
+use Rattle.types.specs.Laws.{new-version}
 use Rattle.replay_parser.proofs.case.Statement.{statement}
 use Rattle.replay_parser.proofs.case.Tie as tie
 
@@ -54,7 +54,7 @@ part-answers-end-2 : tie.Need-part-answers-end-2
 part-answers-end-2 c = search needs
 
 answers-requires : tie.Need-answers-requires
-answers-requires c κs = (search (is-version, needs), search needs)
+answers-requires c κs = (search (new-version, needs), search needs)
 
 enum-told : tie.Need-enum-told
 enum-told c = search needs

@@ -1,7 +1,8 @@
 -- `replay_penalty::score` meets its contract.
 -- Assumes nothing.
 use native.Mathlib.Omega.{arith}
-use Rattle.replay_penalty.specs.Lines.{square-size, kept-size}
+use Rattle.laws.specs.Grid.{square-size}
+use Rattle.replay_penalty.specs.Lines.{kept-size}
 use borrow.Author.Needs.{needs}
 use Rattle.replay_penalty.proofs.score.Statement.{statement}
 use Rattle.replay_penalty.proofs.score.Tie as tie

@@ -1,10 +1,10 @@
 -- `replay_penalty::score_in` meets its contract. The side is at most 177.
 -- Assumes nothing.
-use Rattle.penalty.specs.Squares.{side-square}
 use Prim.Native.Nat.{_-_, _*_}
 use mathlib.Core.Path.{_≡_, _∙_}
 use native.Mathlib.Omega.{arith}
 use lib.Seq.{length-take-le}
+use Rattle.laws.specs.Grid.{square-small}
 use Rattle.replay_penalty.specs.Lines.{square-of}
 use borrow.Author.Needs.{needs}
 use Rattle.replay_penalty.proofs.score_in.Statement.{statement}
@@ -14,7 +14,7 @@ size-of-requires : tie.Need-size-of-requires
 size-of-requires c κs = search needs
 
 mul-n : tie.Need-mul-n
-mul-n c = omega (arith, side-square (c .size-of .result) (omega arith))
+mul-n c = omega (arith, square-small (c .size-of .result) (omega arith))
 
 returns : tie.Need-returns
 returns c = search needs

@@ -1,7 +1,7 @@
 -- `replay_segments::version_same` meets its contract: `Version::new` gives a version.
 -- Assumes nothing.
-use Rattle.replay_segments.specs.Facts.{some-version}
 use borrow.Author.Needs.{needs}
+use Rattle.types.specs.Laws.{new-version}
 use Rattle.replay_segments.proofs.version_same.Statement.{statement}
 use Rattle.replay_segments.proofs.version_same.Tie as tie
 
@@ -21,7 +21,7 @@ level-requires : tie.Need-level-requires
 level-requires c κs = search needs
 
 list-same-requires : tie.Need-list-same-requires
-list-same-requires c κs = search (some-version, needs)
+list-same-requires c κs = search (new-version, needs)
 
 enum-told : tie.Need-enum-told
 enum-told c = search needs

@@ -2,7 +2,8 @@
 -- Assumes nothing.
 use borrow.Author.Needs.{needs}
 use Rattle.types.specs.Laws.{level-le}
-use Rattle.encoder.specs.Drawing.{data-fit, fresh}
+use Rattle.counts.specs.Ranges.{data-fit}
+use Rattle.encoder.specs.Drawing.{fresh}
 use Rattle.encoder.proofs.draw.draw_plan.Statement.{statement}
 use Rattle.encoder.proofs.draw.draw_plan.Tie as tie
 

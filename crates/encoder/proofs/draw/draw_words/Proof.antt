@@ -1,7 +1,8 @@
 -- `draw::draw_words` meets its contract: the local array has room for all codewords.
 -- Assumes nothing.
 use borrow.Author.Needs.{needs}
-use Rattle.encoder.specs.Drawing.{words-fit, words-few, words-room}
+use Rattle.counts.specs.Ranges.{words-fit}
+use Rattle.encoder.specs.Drawing.{words-few, words-room}
 use Rattle.encoder.proofs.draw.draw_words.Statement.{statement}
 use Rattle.encoder.proofs.draw.draw_words.Tie as tie
 

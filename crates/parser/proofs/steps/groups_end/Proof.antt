@@ -6,8 +6,9 @@ use lib.ListN.{length}
 use native.Mathlib.Omega.{arith}
 use borrow.Author.Needs.{needs}
 use Rattle.standard.specs.Bits.{unpack}
+use Rattle.segments.specs.Groups.{width-32}
 use Rattle.parser.specs.Runs.{runEnd}
-use Rattle.parser.specs.CodeRuns.{width-32, full-short, full-large, full-next, full-less}
+use Rattle.parser.specs.CodeRuns.{full-short, full-large, full-next, full-less}
 use Rattle.parser.proofs.steps.groups_end.Statement.{statement}
 use Rattle.parser.proofs.steps.groups_end.Tie as tie
 

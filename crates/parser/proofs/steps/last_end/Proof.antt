@@ -1,7 +1,8 @@
 -- `parser::steps::last_end` meets its contract.
 -- Assumes nothing.
 use borrow.Author.Needs.{needs}
-use Rattle.parser.specs.CodeRuns.{width-32, last-none, last-short, last-large, last-next}
+use Rattle.segments.specs.Groups.{width-32}
+use Rattle.parser.specs.CodeRuns.{last-none, last-short, last-large, last-next}
 use Rattle.parser.proofs.steps.last_end.Statement.{statement}
 use Rattle.parser.proofs.steps.last_end.Tie as tie
 

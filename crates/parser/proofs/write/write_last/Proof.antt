@@ -3,8 +3,9 @@
 use native.Mathlib.Omega.{arith}
 use borrow.Author.Needs.{needs}
 use Rattle.standard.specs.Bits.{unpack}
+use Rattle.segments.specs.Groups.{width-32}
 use Rattle.parser.specs.Runs.{runChars}
-use Rattle.parser.specs.CodeRuns.{width-32, part-whole}
+use Rattle.parser.specs.CodeRuns.{part-whole}
 use Rattle.parser.specs.CodeWrites.{open-room, open-fits, last-written, none-written}
 use Rattle.parser.proofs.write.write_last.Statement.{statement}
 use Rattle.parser.proofs.write.write_last.Tie as tie

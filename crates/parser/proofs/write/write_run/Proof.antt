@@ -6,9 +6,10 @@ use lib.Seq.{paste}
 use lib.ListN.{length, drop}
 use borrow.Author.Needs.{needs}
 use Rattle.standard.specs.Bits.{unpack}
+use Rattle.segments.specs.Groups.{width-32}
 use Rattle.parser.specs.declared.Groups.the-variants.{Next}
 use Rattle.parser.specs.Runs.{runEnd, runChars}
-use Rattle.parser.specs.CodeRuns.{width-32, part-full, full-pos, full-less}
+use Rattle.parser.specs.CodeRuns.{part-full, full-pos, full-less}
 use Rattle.parser.specs.CodeWrites.{write-start, write-all-left, write-next, write-left, write-room, write-end, run-count, open-room, open-fits, open-next}
 use Rattle.parser.proofs.write.write_run.Statement.{statement}
 use Rattle.parser.proofs.write.write_run.Tie as tie

@@ -3,8 +3,9 @@
 use Rattle.standard.specs.Segments.{segmentsOf}
 use Rattle.types.specs.Numbers.{levelOf}
 use Rattle.bits.specs.Bytes.{bytes-of}
+use Rattle.types.specs.Laws.{level-le}
 use Rattle.segments.specs.Records.{partsOf}
-use Rattle.segments.specs.Words.{level-le, lengths-fit, capacity-fits, stream-free, len-inside, end-free, pads-inside, words-done}
+use Rattle.segments.specs.Words.{lengths-fit, capacity-fits, stream-free, len-inside, end-free, pads-inside, words-done}
 use borrow.Author.Needs.{needs}
 use Rattle.segments.proofs.codewords.data_codewords.Statement.{statement}
 use Rattle.segments.proofs.codewords.data_codewords.Tie as tie

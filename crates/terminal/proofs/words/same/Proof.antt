@@ -5,7 +5,8 @@ use mathlib.Core.Path.{_≡_}
 use borrow.Author.Needs.{needs}
 use lib.ListN.{length, drop}
 use Rattle.standard.specs.Numbers.{same}
-use Rattle.terminal.specs.WordLaws.{same-next, same-differ, same-end, same-length as word-length}
+use Rattle.laws.specs.Lists.{unequal}
+use Rattle.terminal.specs.WordLaws.{same-next, same-differ, same-end}
 use Rattle.terminal.proofs.words.same.Statement.{statement}
 use Rattle.terminal.proofs.words.same.Tie as tie
 
@@ -16,7 +17,7 @@ abbrev μ-loop : tie.MeasureT-loop
 μ-loop a b i₀ i = length a - i
 
 returns : tie.Need-returns Inv-loop μ-loop
-returns c = search (word-length, needs)
+returns c = search (unequal, needs)
 
 loop-holds : tie.Need-loop-holds Inv-loop μ-loop
 loop-holds c = search needs
