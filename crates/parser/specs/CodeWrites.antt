@@ -16,9 +16,8 @@ use Rattle.laws.specs.Lists.{length-unpack}
 use Rattle.bits.specs.Fields.{field}
 use Rattle.segments.specs.Kinds.{size, base, width, charOf, groupChars, length-chars, base-pos}
 use Rattle.segments.specs.Runs.{part, part-pos, part-le, part-less}
-use Rattle.parser.specs.declared.Groups.{Groups}
-use Rattle.parser.specs.declared.Groups.the-variants.{Next, Fault}
-use Rattle.parser.specs.Runs.{runEnd, runChars, runEnd-room, runEnd-short, runEnd-large, run-length}
+use Rattle.parser.specs.declared.Groups.the-variants.{Next}
+use Rattle.parser.specs.Runs.{runEnd, runChars, runEnd-room, runEnd-short, runEnd-large, run-length, no-end}
 use Rattle.parser.specs.CodeRuns.{run-fuel, part-whole}
 
 -- ---- digits
@@ -80,9 +79,6 @@ pub paste-end : (o out s : List ℕ) (at j m : ℕ) → out ≡ paste o at s j �
 paste-end o out s at j m inv a b = let e : j ≡ m = omega arith in inv ∙ ap (paste o at s) e
 
 -- ---- a run that has been checked
-no-end : {A : Type 0} (a b : ℕ) → _≡_ {A = Groups} (Fault a) (Next b) → A
-no-end a b e = let z : _≡_ {A = ℕ} 0 1 = cc in absurd (omega arith)
-
 pub record Opened (k : ℕ) (u : List ℕ) (p n end : ℕ) : Type 0 where
   pub room : p + width k (part k n) ≤ length u
   pub next : runEnd k u (n - part k n) (p + width k (part k n)) (n - part k n) ≡ Next end

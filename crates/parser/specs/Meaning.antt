@@ -20,7 +20,7 @@ use Rattle.parser.specs.Written.{numbersOf, numbers-length, textAfter, r
 
 -- ---- records as numbers, and back
 
-part-later : (p : Part) (ns : List ℕ) (i : ℕ) → partAt (p .kind ∷ p .start ∷ p .len ∷ p .assign ∷ ns) (suc i) ≡ partAt ns i
+pub part-later : (p : Part) (ns : List ℕ) (i : ℕ) → partAt (p .kind ∷ p .start ∷ p .len ∷ p .assign ∷ ns) (suc i) ≡ partAt ns i
 part-later p ns i =
     let l : List ℕ = p .kind ∷ p .start ∷ p .len ∷ p .assign ∷ ns in
     let e0 : 4 * suc i ≡ suc (suc (suc (suc (4 * i)))) = omega arith in

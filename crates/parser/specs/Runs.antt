@@ -121,7 +121,7 @@ pub record Wrote (k : ℕ) (u : List ℕ) (f at n end : ℕ) : Type 0 where
 same-end : (a b : ℕ) → _≡_ {A = Groups} (Next a) (Next b) → a ≡ b
 same-end a b e = cc
 
-no-end : {A : Type 0} (a b : ℕ) → _≡_ {A = Groups} (Fault a) (Next b) → A
+pub no-end : {A : Type 0} (a b : ℕ) → _≡_ {A = Groups} (Fault a) (Next b) → A
 no-end a b e = let z : _≡_ {A = ℕ} 0 1 = cc in absurd (omega arith)
 
 pub run-sound : (k : ℕ) (u : List ℕ) (f at n end : ℕ) → k < 3 → Binary u → n ≤ f → at ≤ length u → runEnd k u f at n ≡ Next end → Wrote k u f at n end

@@ -15,6 +15,7 @@ use Rattle.standard.specs.Codewords.{padByte}
 use Rattle.laws.specs.Tests.{cond-true}
 use Rattle.bits.specs.Fields.{field, Binary, field-hit, field-rest, field-room, field-split}
 use Rattle.segments.specs.Ends.{endWidth, fillWidth, fill-up, fill-inside}
+use Rattle.parser.specs.Runs.{no-end}
 use Rattle.parser.specs.declared.Groups.{Groups}
 use Rattle.parser.specs.declared.Groups.the-variants.{Next, Fault}
 use Rattle.parser.specs.Choices.{cond-inv}
@@ -88,9 +89,6 @@ tail-complete u at a e =
     )
 
 -- ---- what is read was written
-no-end : {A : Type 0} (a b : ℕ) → _≡_ {A = Groups} (Fault a) (Next b) → A
-no-end a b e = let z : _≡_ {A = ℕ} 0 1 = cc in absurd (omega arith)
-
 pads-sound : (u : List ℕ) (f p i end : ℕ) → Binary u → p + 8 * f ≡ length u → padsAt u f p i ≡ Next end → drop p u ≡ padBits f i
 unfolding padsAt padBits
 pads-sound u zero p i end b l e =

@@ -12,7 +12,7 @@ use Rattle.standard.specs.Read.{Read, Finds, Reads}
 use Rattle.laws.specs.Lists.{getD-tabulate, is-tabulate}
 use Rattle.segments.specs.Records.{partOf, partAt, partsOf, parts-length}
 use Rattle.parser.specs.Written.{numbersOf}
-use Rattle.parser.specs.Meaning.{length-numbers}
+use Rattle.parser.specs.Meaning.{length-numbers, part-later}
 use Rattle.reader.specs.declared.Outcome.{Outcome}
 use Rattle.reader.specs.Answers.{readOf}
 use Rattle.reader.specs.Theorems.{read-unique}
@@ -32,16 +32,6 @@ pub record ReadsNumbers (g : List ℕ) (s : ℕ) (text records scratch : List �
 
 -- ---- the first record, and the others
 
-part-later : (a b c d : ℕ) (l : List ℕ) (i : ℕ) → partAt (a ∷ b ∷ c ∷ d ∷ l) (suc i) ≡ partAt l i
-part-later a b c d l i =
-    let at : ℕ → ℕ = λ (k : ℕ). getD (a ∷ b ∷ c ∷ d ∷ l) k 0 in
-    let e0 : 4 * suc i ≡ suc (suc (suc (suc (4 * i)))) = omega arith in
-    let e1 : 4 * suc i + 1 ≡ suc (suc (suc (suc (4 * i + 1)))) = omega arith in
-    let e2 : 4 * suc i + 2 ≡ suc (suc (suc (suc (4 * i + 2)))) = omega arith in
-    let e3 : 4 * suc i + 3 ≡ suc (suc (suc (suc (4 * i + 3)))) = omega arith in
-    ap₂ (λ (x y : ℕ). partOf (at x) (at y) (at (4 * suc i + 2)) (at (4 * suc i + 3))) e0 e1
-    ∙ ap₂ (λ (x y : ℕ). partOf (getD l (4 * i) 0) (getD l (4 * i + 1) 0) (at x) (at y)) e2 e3
-
 parts-cons : (a b c d : ℕ) (l : List ℕ) → partsOf (a ∷ b ∷ c ∷ d ∷ l) ≡ partOf a b c d ∷ partsOf l
 unfolding partsOf
 parts-cons a b c d l =
@@ -51,7 +41,7 @@ parts-cons a b c d l =
   where
     at : (i : ℕ) → i < suc (length l / 4) → getD (partOf a b c d ∷ partsOf l) i (partOf 0 0 0 0) ≡ partAt (a ∷ b ∷ c ∷ d ∷ l) i
     at zero h = refl
-    at (suc i) h = getD-tabulate (length l / 4) (partAt l) i (partOf 0 0 0 0) (omega arith) ∙ sym (part-later a b c d l i)
+    at (suc i) h = getD-tabulate (length l / 4) (partAt l) i (partOf 0 0 0 0) (omega arith) ∙ sym (part-later (partOf a b c d) l i)
 
 -- ---- records that are written from the start on
 
