@@ -230,6 +230,7 @@ fn read_square(
 
 /*---- The entry ----*/
 
+// Makes all bytes 0.
 fn zero(bytes: &mut [u8])
     ensures { λ _. ⌜ now (bytes .exit) ≡ replicate (length (now (bytes .entry))) 0 ⌝ }
 {
