@@ -30,28 +30,21 @@ pub checking-end : (w g n d i r : ℕ) → Checking w g n d i r → i ≤ n → 
 unfolding Checking checked
 checking-end w g n d i r e l h = let m : n - i ≡ 0 = omega arith in (rw m at e)
 
--- one turn keeps the rest below 2 ^ (w + 1)
-tenBits : ℕ → Bool
-tenBits r = ltb (bitXor (2 * r) (r / 512 * 0x537)) 1024
+-- one turn, with the divisor g, keeps the rest below 2 h
+turnTest : ℕ → ℕ → ℕ → Bool
+turnTest h g r = ltb (bitXor (2 * r) (r / h * g)) (2 * h)
 
-ten-all : T (among 0 1024 tenBits)
-unfolding tenBits
-ten-all = tt
+turn-lt : (h g : ℕ) → T (among 0 (2 * h) (turnTest h g)) → (r : ℕ) → r < 2 * h → bitXor (2 * r) (r / h * g) < 2 * h
+unfolding turnTest
+turn-lt h g all r b = ltb-true (bitXor (2 * r) (r / h * g)) (2 * h) (T-true (turnTest h g r) (below (turnTest h g) (2 * h) all r b))
 
 pub ten : (r : ℕ) → r < 1024 → bitXor (2 * r) (r / 512 * 0x537) < 1024
-unfolding tenBits
-ten r h = ltb-true (bitXor (2 * r) (r / 512 * 0x537)) 1024 (T-true (tenBits r) (below tenBits 1024 ten-all r h))
-
-twelveBits : ℕ → Bool
-twelveBits r = ltb (bitXor (2 * r) (r / 2048 * 0x1F25)) 4096
-
-twelve-all : T (among 0 4096 twelveBits)
-unfolding twelveBits
-twelve-all = tt
+unfolding turnTest
+ten r h = turn-lt 512 0x537 tt r h
 
 pub twelve : (r : ℕ) → r < 4096 → bitXor (2 * r) (r / 2048 * 0x1F25) < 4096
-unfolding twelveBits
-twelve r h = ltb-true (bitXor (2 * r) (r / 2048 * 0x1F25)) 4096 (T-true (twelveBits r) (below twelveBits 4096 twelve-all r h))
+unfolding turnTest
+twelve r h = turn-lt 2048 0x1F25 tt r h
 
 pub word-lt : (d r : ℕ) → d < 32 → r < 1024 → bitXor (1024 * d + r) 0x5412 < 32768
 word-lt d r h l = xor-lt 15 (1024 * d + r) 0x5412 (omega arith) (omega arith)
