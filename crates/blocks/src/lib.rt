@@ -1,5 +1,6 @@
 // Check bytes of each block, all codewords from the data codewords, and the data codewords back out of all codewords.
 // The data codewords stand block by block: the first `numshortblocks` of `numblocks` blocks have `shortdatlen` bytes, the others one more.
+#![tactic(auto)]
 mod interleave; // interleave.rt: the bytes of blocks in turn, and the way back
 
 ghost use Rattle.std.specs.Prelude.{◌≡◌, ◌++◌, ◌+◌, ◌-◌, ◌*◌, ◌<◌, ◌≤◌, length, take, drop};
@@ -48,7 +49,7 @@ pub fn data_words(ver: Version, ecl: QrCodeEcc, all: &[u8], out: &mut [u8])
 }
 
 // How the data codewords are shared out among the blocks.
-#[derive(Drop)]
+#[derive(Clone, Copy)]
 struct Shares {
     numblocks: usize,
     blockecclen: usize,

@@ -1,4 +1,5 @@
 // How much a version holds: the two tables, raw modules, data codewords and the places of alignment patterns.
+#![tactic(auto)]
 ghost use Rattle.std.specs.Prelude.{◌≡◌, ◌++◌, ◌+◌, ◌-◌, ◌≤◌, length, replicate};
 ghost use Rattle.standard.specs.Sizes.{raw_modules, check_bytes, blocks, data_codewords};
 ghost use Rattle.standard.specs.Patterns.{alignment_step, alignment};
@@ -99,7 +100,7 @@ fn alignment_step(ver: Version) -> usize
 }
 
 // Positions of alignment patterns: the first `count` of `at`; zeros follow.
-#[derive(Drop)]
+#[derive(Clone, Copy)]
 pub struct Positions {
     pub count: usize,
     pub at: [usize; 7],

@@ -1,4 +1,5 @@
 // The encoder: planning, drawing and the public entries. No entry asks anything of its caller: every input gets a label or one refusal.
+#![tactic(auto)]
 ghost use Rattle.std.specs.Prelude.{◌≡◌, ◌≤◌};
 ghost use Rattle.standard.specs.Encode.{encode, encode_text, encode_bytes, encode_codewords};
 ghost use Rattle.segments.specs.Records.{parts_of};
@@ -12,7 +13,7 @@ use plan::Planning;
 use types::{Mask, QrCodeEcc, Version};
 
 // Why there is no label; document 01's refusals 1 to 10 in their order.
-#[derive(Drop)]
+#[derive(Clone, Copy)]
 pub enum Refusal {
     Level(u8),
     Versions { first: u8, last: u8 },
@@ -27,7 +28,7 @@ pub enum Refusal {
 }
 
 // What an entry answers.
-#[derive(Drop)]
+#[derive(Clone, Copy)]
 pub enum Outcome {
     Label {
         version: Version,

@@ -15,7 +15,7 @@ use segments::TotalBits;
 use types::{QrCodeEcc, Version};
 
 // A plan: version, level and the bits used, or why there is none.
-#[derive(Drop)]
+#[derive(Clone, Copy)]
 pub(crate) enum Planning {
     Planned {
         version: Version,
@@ -26,7 +26,7 @@ pub(crate) enum Planning {
 }
 
 // How a list of records fits one version: the bits used, or that they are too many, or that some length is.
-#[derive(Drop)]
+#[derive(Clone, Copy)]
 enum Fit {
     Fits(usize),
     TooMany { bits: usize, capacity: usize },

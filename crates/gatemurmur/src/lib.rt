@@ -1,6 +1,7 @@
 // The functions for C and Rust: the encoder's entries, the strict reader and the module question, exported. An exported
 // function has no enum, so an answer goes out as a struct of numbers. `include/gatemurmur.h` is their header.
 // The two functions with a slice of records are proved by hand.
+#![tactic(auto)]
 mod answers; // answers.rt: the encoder's answers as numbers
 mod readings; // readings.rt: the reader's answers as numbers
 
@@ -14,7 +15,7 @@ use records::Record;
 
 // What an encoding function answers.
 #[repr(C)]
-#[derive(Drop)]
+#[derive(Clone, Copy)]
 pub struct Answer {
     // 0 for a label, else the refusal's number; the other fields are 0 where they have nothing to say.
     pub number: u32,
@@ -28,7 +29,7 @@ pub struct Answer {
 
 // What the reading function answers.
 #[repr(C)]
-#[derive(Drop)]
+#[derive(Clone, Copy)]
 pub struct Reading {
     // 0 for a label, else the refusal's number; the other fields are 0 where they have nothing to say.
     pub number: u32,

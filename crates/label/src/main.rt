@@ -1,5 +1,6 @@
 // Draws the label of a text in the terminal, or reads a label back. `label --help` says how it is called.
 // Here is the command line; what reads or writes besides is in draw, read and show.
+#![tactic(auto)]
 ghost use Rattle.std.specs.Prelude.{◌+◌, ◌<◌, ◌^◌};
 
 use out::say;

@@ -1,4 +1,5 @@
 // The penalty of a grid on packed lines: runs, cores, squares and dark modules by shifts and population counts.
+#![tactic(auto)]
 ghost use Rattle.std.specs.Prelude.{◌≡◌, ℕ, ◌*◌, ◌<◌, ◌≤◌, length};
 ghost use Rattle.standard.specs.Penalty.{penalty};
 ghost use Rattle.laws.specs.Grid.{paint};
@@ -51,7 +52,7 @@ pub fn pack_columns(grid: &[u8], side: usize, words: &mut [u64])
 /*---- The whole grid ----*/
 
 // What the rows cost, the squares between them, and their dark modules.
-#[derive(Drop)]
+#[derive(Clone, Copy)]
 struct Rows {
     cost: u32,
     same: u32,

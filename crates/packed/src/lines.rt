@@ -17,7 +17,7 @@ ghost use Rattle.packed.specs.Whole.{zone};
 pub const PENALTY_N3: u32 = 40;
 
 // 192 modules: module i is bit i % 64 of word i / 64.
-#[derive(Drop)]
+#[derive(Clone, Copy)]
 pub struct Line {
     pub a: u64,
     pub b: u64,

@@ -1,4 +1,5 @@
 // The strict parser of data codewords: a step at a bit, and two passes over all of them, which count and write.
+#![tactic(auto)]
 mod eci_number; // eci_number.rt: ECI numbers
 mod steps; // steps.rt: one segment
 mod tail; // tail.rt: what follows the segments
@@ -18,7 +19,7 @@ ghost use Rattle.parser.specs.Written.{Room, text_after, records_after};
 use types::Version;
 
 // What the check of groups or of padding answers: the bit after them, or the bit at which the first faulty field begins.
-#[derive(Drop)]
+#[derive(Clone, Copy)]
 enum Groups {
     Next(usize),
     Fault(usize),
@@ -26,7 +27,7 @@ enum Groups {
 
 // What an ECI field answers: its number and the bit after it, the bit after it where it is not in its shortest form,
 // or the bit at which it begins where it can't be read.
-#[derive(Drop)]
+#[derive(Clone, Copy)]
 enum Eci {
     Value { assign: u32, next: usize },
     Long(usize),
@@ -36,7 +37,7 @@ enum Eci {
 // What stands at a bit of the data: a segment (its kind, the bit at which its payload begins, its count, its ECI number
 // and the bit after it), an ECI number that is not in its shortest form (the bits at which it begins and ends), the end,
 // or a fault (the bit at which the faulty field begins).
-#[derive(Drop)]
+#[derive(Clone, Copy)]
 enum Step {
     Found {
         kind: u8,
@@ -54,7 +55,7 @@ enum Step {
 }
 
 // What the counting pass answers: how many records and characters the data hold, or the bit at which the first faulty field begins.
-#[derive(Drop)]
+#[derive(Clone, Copy)]
 pub enum Counted {
     Read { records: usize, text: usize },
     Bad(usize),

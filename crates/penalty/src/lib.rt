@@ -1,4 +1,5 @@
 // The penalty of a grid: runs, finder-like patterns, squares and balance.
+#![tactic(auto)]
 ghost use Rattle.std.specs.Prelude.{◌≡◌, ℕ, ◌+◌, ◌-◌, ◌*◌, ◌%◌, ◌<◌, ◌≤◌, cond, ◌&&◌, leb, eqb, length, get_or};
 ghost use Rattle.standard.specs.Numbers.{apart, one, sum, tabulate};
 ghost use Rattle.standard.specs.Penalty.{row, column, run_cost, line_cost, balance, penalty};
@@ -142,7 +143,7 @@ fn distance(a: u32, b: u32) -> u32
 }
 
 // The newest seven runs of a line, newest first.
-#[derive(Drop)]
+#[derive(Clone, Copy)]
 struct FinderPenalty {
     qr_size: u32,
     run_history: [u32; 7],

@@ -1,4 +1,5 @@
 // The strict reader: what label a grid shows. Function modules and all codewords are compared with what the label draws.
+#![tactic(auto)]
 mod check; // check.rt: the first checks
 
 ghost use Rattle.std.specs.Prelude.{◌≡◌, ◌&&◌, [], ◌∷◌, ◌++◌, ◌+◌, ◌*◌, ◌≤◌, length, take, replicate};
@@ -21,7 +22,7 @@ use parser::Counted;
 use types::{Mask, QrCodeEcc, Version};
 
 // Why a grid is not read.
-#[derive(Drop)]
+#[derive(Clone, Copy)]
 pub enum Refusal {
     // The side is that of no version.
     Side(usize),
@@ -40,7 +41,7 @@ pub enum Refusal {
 }
 
 // What a reading answers.
-#[derive(Drop)]
+#[derive(Clone, Copy)]
 pub enum Outcome {
     Refused(Refusal),
     Label {
@@ -53,7 +54,7 @@ pub enum Outcome {
 }
 
 // What the first checks answer: the version, or a refusal.
-#[derive(Drop)]
+#[derive(Clone, Copy)]
 enum Early {
     Fine(Version),
     Refused(Refusal),

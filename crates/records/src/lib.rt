@@ -1,5 +1,6 @@
 // The entries over lent slices of segment records. The work is done on numbers, four to a record; what is here unpacks and packs.
 // A function with a slice of records is proved by hand, so such functions hold nothing but calls, and one loop each.
+#![tactic(auto)]
 ghost use Rattle.std.specs.Prelude.{◌≡◌, ◌+◌, ◌*◌, ◌≤◌, min, length, take};
 ghost use Rattle.standard.specs.Encode.{encode, refused};
 ghost use Rattle.standard.specs.Read.{Reads};
@@ -15,7 +16,7 @@ use encoder::{Outcome, Refusal};
 // A segment record: kind 0 Numeric, 1 Alphanumeric and 2 Byte name a part of one lent text, with assign 0;
 // kind 3 is ECI, with start and length 0.
 #[repr(C)]
-#[derive(Drop)]
+#[derive(Clone, Copy)]
 pub struct Record {
     pub kind: u64,
     pub start: u64,

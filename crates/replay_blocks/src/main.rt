@@ -1,5 +1,6 @@
 // Compares all codewords with a fixed list of the original's answers on standard input, one case a line. How the list was made, and what
 // a line says, stands in tools/vectors/blocks.rs. The data codewords are also taken out of all codewords again.
+#![tactic(auto)]
 ghost use Rattle.std.specs.Prelude.{◌≡◌, ◌<◌, ◌≤◌, length};
 ghost use Rattle.standard.specs.Sizes.{raw_codewords, data_codewords};
 ghost use Rattle.types.specs.Numbers.{IsVersion, level_of};
@@ -8,7 +9,7 @@ use types::{NewVersion, QrCodeEcc, Version};
 
 // How many cases were compared in full and by digests, how many of them differ, and how many
 // gave other data codewords back.
-#[derive(Drop)]
+#[derive(Clone, Copy)]
 struct Tally {
     full: u64,
     digests: u64,

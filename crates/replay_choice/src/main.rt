@@ -1,12 +1,13 @@
 // Compares masks that are chosen automatically, and the grids drawn with them, with a fixed list of the original's answers on standard
 // input, one case a line. How the list was made, and what a line says, stands in tools/vectors/choice.rs.
+#![tactic(auto)]
 ghost use Rattle.std.specs.Prelude.{◌<◌, ◌≤◌, length};
 
 use encoder::Outcome;
 use types::Mask;
 
 // How many grids were compared in full and by digests, and how many masks and grids differ.
-#[derive(Drop)]
+#[derive(Clone, Copy)]
 struct Tally {
     full: u64,
     digests: u64,
@@ -15,14 +16,14 @@ struct Tally {
 }
 
 // What reading a line gives: its length, or that the input is at its end.
-#[derive(Drop)]
+#[derive(Clone, Copy)]
 enum Line {
     Read(usize),
     End,
 }
 
 // Whether mask and grid of a line are the same.
-#[derive(Drop)]
+#[derive(Clone, Copy)]
 struct Same {
     mask: bool,
     grid: bool,

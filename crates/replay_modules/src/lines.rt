@@ -4,7 +4,7 @@ ghost use Rattle.std.specs.Prelude.{◌≤◌};
 use types::QrCodeEcc;
 
 // What reading a line gives: its length, or that the input is at its end.
-#[derive(Drop)]
+#[derive(Clone, Copy)]
 pub(crate) enum Line {
     Read(usize),
     End,

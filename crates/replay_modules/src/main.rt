@@ -1,5 +1,6 @@
 // Compares whole grids with a fixed list of the original's answers on standard input, one case a line. How the list was made, and what
 // a line says, stands in tools/vectors/modules.rs. Level, mask and codewords are also read back, and some modules are asked for.
+#![tactic(auto)]
 ghost use Rattle.std.specs.Prelude.{◌<◌, ◌≤◌, length};
 ghost use Rattle.standard.specs.Sizes.{side};
 ghost use Rattle.laws.specs.Grid.{Square};
@@ -13,7 +14,7 @@ use types::{Mask, NewMask, NewVersion, QrCodeEcc, Version};
 
 // How many grids were compared in full and by digests, how many of them differ, how many
 // gave something else back, and how many answered wrong.
-#[derive(Drop)]
+#[derive(Clone, Copy)]
 struct Tally {
     full: u64,
     digests: u64,

@@ -1,4 +1,5 @@
 // Runs the strict parser on the data codewords of a fixed list (tools/vectors/parser.rs) and compares its answers, records and characters.
+#![tactic(auto)]
 ghost use Rattle.std.specs.Prelude.{◌*◌, ◌<◌, ◌≤◌, length};
 ghost use Rattle.types.specs.Numbers.{IsVersion};
 
@@ -146,7 +147,7 @@ fn case(s: &[u8]) -> bool {
 }
 
 // What one line gives: the same, another answer, or that the input is at its end.
-#[derive(Drop)]
+#[derive(Clone, Copy)]
 enum Line {
     Same,
     Other,

@@ -1,5 +1,6 @@
 // Compares penalty scores with those of the original: the byte scan's, and those of the packed lines. A case on standard input is a line of 17 bytes:
 // kind, version, parameter, score. tools/vectors/penalty.rs makes the list, and has the same rules for the grids.
+#![tactic(auto)]
 ghost use Rattle.std.specs.Prelude.{◌≡◌, ◌*◌, ◌+◌, ◌<◌, ◌≤◌, length};
 ghost use Rattle.standard.specs.Sizes.{side as side_of};
 ghost use Rattle.laws.specs.Grid.{Square};
@@ -246,7 +247,7 @@ fn differs(line: [u8; 17]) -> u64
 }
 
 // What has been compared so far.
-#[derive(Drop)]
+#[derive(Clone, Copy)]
 struct Tally {
     compared: u64,
     differ: u64,

@@ -1,5 +1,6 @@
 // Compares payloads, total bits and data codewords with those of the original.
 // tools/vectors/segments.rs makes the list on standard input, and says how a case stands there.
+#![tactic(auto)]
 ghost use Rattle.std.specs.Prelude.{◌≡◌, ◌<◌, T, length, replicate};
 ghost use Rattle.standard.specs.Numbers.{every};
 ghost use Rattle.standard.specs.Sizes.{data_codewords};
@@ -214,7 +215,7 @@ fn list_case(line: &[u8; 24]) -> bool {
 }
 
 // How many cases there were of each sort, and how many differ.
-#[derive(Drop)]
+#[derive(Clone, Copy)]
 struct Counts {
     payloads: u64,
     lists: u64,

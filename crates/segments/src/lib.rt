@@ -1,4 +1,5 @@
 // Segments: characters and ECI numbers as bits, records that name parts of one lent text, and the data codewords.
+#![tactic(auto)]
 ghost use Rattle.std.specs.Prelude.{◌≡◌, ◌^◌, ◌<◌, ◌≤◌, T};
 ghost use Rattle.standard.specs.Numbers.{every};
 ghost use Rattle.standard.specs.Kinds.{code, is_digit, is_alphanumeric, allowed};
@@ -14,7 +15,7 @@ pub mod make;
 pub mod records;
 
 // What `get_total_bits` answers: the bits, or that a segment has too many characters to fit its length field.
-#[derive(Drop)]
+#[derive(Clone, Copy)]
 pub enum TotalBits {
     Bits(usize),
     TooLong,

@@ -55,7 +55,7 @@ fn segment_bits(ver: Version, kind: u8, chars: &[u8], assignval: u32) -> TotalBi
 }
 
 // A record that is as it should be: the kind, the part of the text, and the ECI number.
-#[derive(Drop)]
+#[derive(Clone, Copy)]
 pub(crate) struct Named {
     pub kind: u8,
     pub start: usize,

@@ -5,7 +5,7 @@ ghost use Rattle.terminal.specs.Choices.{defaults as default_options, wrong as w
 use super::words::{first_of, last_of, level_named, mask_named, same, switch_named};
 
 // What is asked for: the numbers that the encoder takes, or the help, or something that is no option.
-#[derive(Drop)]
+#[derive(Clone, Copy)]
 pub struct Options {
     pub level: u8,
     pub first: u8,

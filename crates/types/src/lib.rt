@@ -1,11 +1,12 @@
 // The number types of the original, so that a mask can't be passed as a version, its levels and its modes.
+#![tactic(auto)]
 ghost use Rattle.std.specs.Prelude.{◌≡◌, ◌≤◌};
 ghost use Rattle.standard.specs.Format.{level_bits};
 ghost use Rattle.standard.specs.Kinds.{mode_bits, count_width};
 ghost use Rattle.types.specs.Numbers.{level_of, kind_of, IsVersion, new_version, new_mask};
 
 // The error correction level in a QR Code symbol.
-#[derive(Drop)]
+#[derive(Clone, Copy)]
 pub enum QrCodeEcc {
     // The QR Code can tolerate about  7% erroneous codewords.
     Low,
@@ -32,6 +33,7 @@ impl QrCodeEcc {
     }
 
     // Returns an unsigned 2-bit integer (in the range 0 to 3).
+    #[tactic(auto, unfolding(standard::specs::Format::level_bits))]
     pub fn format_bits(self) -> u8
         ensures { result ≡ level_bits (level_of self) }
     {
@@ -46,7 +48,7 @@ impl QrCodeEcc {
 }
 
 // Describes how a segment's data bits are interpreted.
-#[derive(Drop)]
+#[derive(Clone, Copy)]
 pub enum QrSegmentMode {
     Numeric,
     Alphanumeric,
@@ -94,11 +96,11 @@ const ALPHANUMERIC_WIDTHS: [u8; 3] = [9, 11, 13];
 const BYTE_WIDTHS: [u8; 3] = [8, 16, 16];
 
 // A number between 1 and 40 (inclusive).
-#[derive(Drop)]
+#[derive(Clone, Copy)]
 pub struct Version(u8);
 
 // What `Version::new` answers: the value, or that there is none.
-#[derive(Drop)]
+#[derive(Clone, Copy)]
 pub enum NewVersion {
     Some(Version),
     None,
@@ -112,6 +114,7 @@ impl Version {
     pub const MAX: Version = Version(40);
 
     // Creates a version object from the given number; there is none outside the range [1, 40].
+    #[tactic(auto, using(crate::specs::Laws::version_low, crate::specs::Laws::version_high, crate::specs::Laws::version_is))]
     pub fn new(ver: u8) -> NewVersion
         ensures { result ≡ new_version ver }
     {
@@ -133,11 +136,11 @@ impl Version {
 }
 
 // A number between 0 and 7 (inclusive).
-#[derive(Drop)]
+#[derive(Clone, Copy)]
 pub struct Mask(u8);
 
 // What `Mask::new` answers: the value, or that there is none.
-#[derive(Drop)]
+#[derive(Clone, Copy)]
 pub enum NewMask {
     Some(Mask),
     None,
@@ -145,6 +148,7 @@ pub enum NewMask {
 
 impl Mask {
     // Creates a mask object from the given number; there is none above 7.
+    #[tactic(auto, using(crate::specs::Laws::mask_high, crate::specs::Laws::mask_is))]
     pub fn new(mask: u8) -> NewMask
         ensures { result ≡ new_mask mask }
     {
