@@ -1,0 +1,13 @@
+-- `capacity::get_alignment_pattern_positions` meets its contract.
+-- Assumes nothing.
+use native.Mathlib.Omega.{arith}
+use Prim.Native.Nat.{◌-◌, ◌≤◌}
+use Rattle.capacity.specs.Positions.{position_le, none, Stored, stored_first, stored_next, stored_end}
+use Rattle.std.proofs.Common.{rules}
+use Rattle.capacity.proofs.get_alignment_pattern_positions.Given as goal
+
+abbrev pub invariant-loop-i : goal.invariant-loop-i
+invariant-loop-i l = Stored l.v l.i l.result × (1 ≤ l.i) × (l.i ≤ l.numalign)
+
+abbrev pub decreases-loop-i : goal.decreases-loop-i
+decreases-loop-i l = l.numalign - l.i

@@ -1,0 +1,266 @@
+#!/usr/bin/env python3
+"""Turns the Proof.antt files of a crate to Invariants.antt and Answers.antt, as today's Rattle reads them.
+
+usage: python3 tools/port/answers.py CRATE NAMES.json [FUNCTION..]
+
+NAMES.json is what `rt check --generated FOLDER --old-names` writes in the crate's folder. Goals that were only `search rules` are left out,
+since the check tries that by itself. Proofs by hand (with no tie.spec) stay. What could not be turned is printed.
+"""
+import json
+import os
+import re
+import subprocess
+import sys
+
+TOKEN = r"[^\s(){}.;,@\"«»\\]+"
+ROOT = os.path.join(os.path.dirname(os.path.realpath(__file__)), "..", "..")
+
+
+def decls(text):
+    """The top-level declarations: (name, type, rest)."""
+    lines = text.split("\n")
+    head, out, comment = [], [], []
+    i = 0
+    while i < len(lines):
+        m = re.match(rf"(?:abbrev |unfoldable |pub )*({TOKEN})((?: [({{].*)?) : ?(.*)$", lines[i])
+        if m and not lines[i].startswith(("use ", "--", " ", "data", "module", "record")):
+            j = i + 1
+            while j < len(lines) and not (re.match(rf"(?:abbrev |unfoldable |pub |data |record |module )*({TOKEN})(?: [({{].*)? :(?: |$)", lines[j]) and not lines[j].startswith((" ", "--"))) and not lines[j].startswith(("--", "module ", "data ", "pub data ", "record ", "pub record ")):
+                j += 1
+            out.append([m[1], lines[i:j], comment])
+            comment = []
+            i = j
+        else:
+            if lines[i].startswith("use ") or not out:
+                head.append(lines[i])
+            else:
+                # other blocks (module _, data ..) are kept as they are
+                j = i + 1
+                if lines[i].startswith("--"):
+                    comment = comment + [lines[i]]
+                    i += 1
+                    continue
+                while j < len(lines) and (lines[j].startswith(" ") or lines[j] == ""):
+                    j += 1
+                out.append([None, lines[i:j], comment])
+                comment = []
+                i = j
+                continue
+            i += 1
+    return head, out
+
+
+class Names:
+    def __init__(self, d):
+        self.needs = d["needs"]
+        self.at = d["asked_at"]
+        self.places = {}
+        for place, parent, step, *more in d["places"]:
+            self.places[place] = (parent, step)
+        self.arms = d["arms"]
+        self.arm_of = {}
+        for (place, parent, step, *more), arm in zip(d["places"], d["arms"]):
+            self.arm_of[place] = arm
+        self.loops = d["loops"]
+        self.changed = d["changed"]
+
+
+def dashless(s):
+    return s.replace("-", "_")
+
+
+def turn_path(names, place, head, path, said):
+    """c.before.before.STEP.FIELD at a place, as c.STEP.FIELD."""
+    parts = path.split(".")
+    k = 0
+    while k < len(parts) and parts[k] == "before":
+        place = names.places[place][0]
+        if place is None:
+            said.append(f"too many before: {path}")
+            return head + "." + path, None
+        k += 1
+    rest = parts[k:]
+    if not rest:
+        return None, place
+    if rest[0] in ("args", "requires", "ranges"):
+        return ".".join(["c"] + rest), place
+    old, new = names.places[place][1]
+    if dashless(old) != dashless(rest[0]):
+        said.append(f"step {rest[0]} is not {old} ({new}) at {place}: {path}")
+        return ".".join(["c"] + rest), place
+    fields = rest[1:]
+    arm = names.arm_of.get(place)
+    if arm and fields[:1] == ["given"]:
+        for name, step, given in arm[2]:
+            if dashless(step) == dashless(old) and given == fields[: len(given)] and given:
+                return ".".join(["c", arm[0], name] + fields[len(given):]), place
+        said.append(f"given: {path} at {place}: {arm}")
+    return ".".join(["c", new] + fields), place
+
+
+def turn_body(names, place, text, said):
+    alias = {"c": place}
+    # let b = c.before.before in
+    def let(m):
+        got, p = turn_path(names, alias[m[2]], m[2], m[3], said)
+        if got is None:
+            alias[m[1]] = p
+            return m[4] if m[4].strip() else m[4]
+        return m[0]
+
+    text = re.sub(rf"\blet ({TOKEN}) = (c)((?:\.before)+) in(\s)", lambda m: (alias.__setitem__(m[1], turn_path(names, place, "c", m[3][1:], said)[1]) or m[4]), text)
+    heads = "|".join(sorted(map(re.escape, alias), key=len, reverse=True))
+
+    def path(m):
+        got, _ = turn_path(names, alias[m[1]], m[1], m[2][1:], said)
+        return got if got else m[0]
+
+    out = []
+    for line in text.split("\n"):
+        out.append(re.sub(rf"(?<![^\s(){{}};,])({heads})((?:\.[^\s(){{}}.;,@\"]+)+)", path, line))
+    return "\n".join(out)
+
+
+def convert(crate, key, d, old_text, text, folder):
+    said = []
+    names = Names(d)
+    head, ds = decls(text)
+    _, olds = decls(old_text)
+    if not any("tie.spec" in "\n".join(x[1]) for x in ds):
+        return None, None, ["by hand"]
+    spec = [x for x in ds if "tie.spec" in "\n".join(x[1])][-1]
+    body = "\n".join(spec[1])
+    inside = body[body.index("tie.spec") + 8:]
+    order = re.findall(rf"{TOKEN}", inside)
+    by = {x[0]: x for x in ds if x[0]}
+    invs = [n for n in order if n in by and re.search(r": tie\.(invariant|InvT)", by[n][1][0])]
+    meas = [n for n in order if n in by and re.search(r": tie\.(decreases|MeasureT)", by[n][1][0])]
+    goals = [n for n in order if n in by and n not in invs and n not in meas]
+    is_need = {n: re.search(r": tie\.Need-(" + TOKEN + ")", by[n][1][0]) for n in goals}
+    mapping = {}
+    if len(goals) == len(names.needs):
+        for n, need, at in zip(goals, names.needs, names.at):
+            mapping[n] = (need[1], at[0])
+    else:
+        # by name: the landed file's, in the same order of declarations
+        old_of = {}
+        if len(olds) == len(ds):
+            for a, b in zip(ds, olds):
+                m = re.search(r": tie\.Need-(" + TOKEN + ")", b[1][0])
+                if m:
+                    old_of[a[0]] = m[1]
+        table = {dashless(n[0]): (n[1], a[0]) for n, a in zip(names.needs, names.at)}
+        turns = [("array_read", "element_copy_out"), ("array_write", "array_write"), ("loop_holds", "loop_init"), ("again", "preserved"), ("less", "smaller"), ("holds", "init")]
+        for n in goals:
+            o = dashless(old_of.get(n, n))
+            for a, b in [("", "")] + turns:
+                if o.replace(a, b) in table:
+                    mapping[n] = table[o.replace(a, b)]
+                    break
+            else:
+                said.append(f"no goal for {n} ({o}); goals: {len(goals)} and {len(names.needs)}")
+    inv_out, ans_out = [], []
+    loops = names.loops
+    for kind, lst in (("invariant", invs), ("decreases", meas)):
+        for k, n in enumerate(lst):
+            lines = by[n][1]
+            text_n = "\n".join(lines[1:]).strip("\n")
+            m = re.match(rf"((?:unfolding .*\n)?){re.escape(n)}((?: +(?!=\s){TOKEN})*) =(\s)", text_n)
+            if not m:
+                said.append(f"{kind} {n} unread")
+                continue
+            args = m[2].split()
+            rhs = text_n[m.end() - 1:]
+            rec = kind == "decreases" and not n.endswith(tuple("loop" for _ in [0])) and len(lst) > len(loops)
+            if k >= len(loops):
+                said.append(f"{kind} {n}: no loop")
+                continue
+            (old_l, new_l), vs = loops[k]
+            ch = names.changed[k]
+            want = [v + ("₀" if c else "") for v, c in zip(vs, ch)] + [v for v, c in zip(vs, ch) if c]
+            if len(want) != len(args):
+                said.append(f"{kind} {n}: {args} and {want}")
+                continue
+            sub = {}
+            for a, (w) in zip(args, [("l.initial." + v if c else "l." + v) for v, c in zip(vs, ch)] + ["l." + v for v, c in zip(vs, ch) if c]):
+                sub[a] = w
+            rhs = re.sub(TOKEN + "|\\.", lambda t: t[0], rhs)
+            pat = rf"(?<![^\s(){{}};,])({'|'.join(map(re.escape, sorted(sub, key=len, reverse=True)))})(?![^\s(){{}}.;,])"
+            if sub:
+                rhs = re.sub(pat, lambda t: sub[t[1]], rhs)
+            rhs = rhs.replace("l.«data»", "l.«data»")
+            name = f"{kind}-{new_l}"
+            inv_out.append(f"abbrev pub {name} : goal.{name}\n{m[1]}{name} l ={rhs}")
+    for n, lines, comment in ds:
+        if n is None:
+            ans_out.append("\n".join(comment + lines).rstrip())
+            continue
+        if n == spec[0] or n in invs or n in meas:
+            continue
+        if n not in goals:
+            ans_out.append("\n".join(comment + lines).rstrip())
+            continue
+        rest = "\n".join(lines[1:]).strip("\n")
+        m = re.match(rf"((?:unfolding .*\n)?){re.escape(n)}((?: +(?!=\s){TOKEN})*) =(\s)", rest)
+        if not m:
+            said.append(f"answer {n} unread: {rest[:80]}")
+            continue
+        rhs = rest[m.end() - 1:]
+        if not m[1] and rhs.strip() in ("search rules",):
+            continue
+        if n not in mapping:
+            ans_out.append("-- no goal: " + n)
+            continue
+        new, place = mapping[n]
+        args = m[2].split()
+        here = []
+        rhs = turn_body(names, place, rhs, here)
+        said += [f"{new}: {x}" for x in here]
+        if args[:1] != ["c"]:
+            said.append(f"{new}: arguments {args}")
+        if args[1:] and args[1:] != ["κs"]:
+            said.append(f"{new}: arguments {args}")
+        ans_out.append("\n".join(comment + [f"pub {new} : goal.{new}", f"{m[1]}{new} c ={rhs}"]))
+    uses = [l for l in head if l.startswith("use ") and not re.search(r"\.(Statement|Tie)\b", l)]
+    uses = [l.replace("use borrow.Author.Rules.{rules}", "use Rattle.std.proofs.Common.{rules}") for l in uses]
+    uses = list(dict.fromkeys(uses))
+    top = [l for l in head if l.startswith("--")]
+    fn = folder[len("proofs/"):].replace("/", ".")
+    inv = ans = None
+    if inv_out:
+        inv = "\n".join(top + uses + [f"use Rattle.{crate}.proofs.{fn}.Given as goal", ""]) + "\n" + "\n\n".join(inv_out) + "\n"
+    if ans_out:
+        ans = "\n".join(top + uses + [f"use Rattle.{crate}.proofs.{fn}.Goals as goal", ""]) + "\n" + "\n\n".join(ans_out) + "\n"
+    return inv, ans, said
+
+
+def main(crate, path, only):
+    data = json.load(open(path))
+    base = os.path.join(ROOT, "crates", crate)
+    commit = open(os.path.join(ROOT, "docs/PORT.md")).read().split()[0]
+    for key, d in sorted(data.items()):
+        m = re.match(r"Rattle-\w+-proofs\.(.*)\.Lts$", key)
+        if not m:
+            continue
+        folder = "proofs/" + m[1].replace(".", "/")
+        p = os.path.join(base, folder, "Proof.antt")
+        if not os.path.exists(p) or (only and m[1] not in only):
+            continue
+        text = open(p).read()
+        r = subprocess.run(["git", "-C", ROOT, "show", f"{commit}:crates/{crate}/{folder}/Proof.antt"], capture_output=True, text=True)
+        inv, ans, said = convert(crate, key, d, r.stdout, text, folder)
+        for s in said:
+            print(f"{m[1]}: {s}")
+        if said == ["by hand"]:
+            continue
+        os.remove(p)
+        for name, t in (("Invariants", inv), ("Answers", ans)):
+            q = os.path.join(base, folder, name + ".antt")
+            if t:
+                open(q, "w").write(t)
+        if not os.listdir(os.path.join(base, folder)):
+            os.rmdir(os.path.join(base, folder))
+
+
+if __name__ == "__main__":
+    main(sys.argv[1], sys.argv[2], sys.argv[3:])
