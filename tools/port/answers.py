@@ -69,25 +69,35 @@ def dashless(s):
     return s.replace("-", "_")
 
 
+def chain(names, place):
+    while place is not None:
+        yield place
+        place = names.places[place][0]
+
+
 def turn_path(names, place, head, path, said):
-    """c.before.before.STEP.FIELD at a place, as c.STEP.FIELD."""
+    """c.before.before.STEP.FIELD at a place, as c.STEP.FIELD: the step is looked for on the way to the place, first at its depth."""
     parts = path.split(".")
     k = 0
     while k < len(parts) and parts[k] == "before":
-        place = names.places[place][0]
-        if place is None:
-            said.append(f"too many before: {path}")
-            return head + "." + path, None
+        up = names.places[place][0]
+        place = place if up is None else up
         k += 1
     rest = parts[k:]
     if not rest:
         return None, place
     if rest[0] in ("args", "requires", "ranges"):
         return ".".join(["c"] + rest), place
+    found = [p for p in chain(names, place) if dashless(names.places[p][1][0]) == dashless(rest[0])]
+    below = [p for p in chain(names, names.start) if dashless(names.places[p][1][0]) == dashless(rest[0])]
+    if place not in found:
+        if len(below) != 1:
+            said.append(f"step {rest[0]} at {place}: {len(below)} such: {path}")
+        if found or below:
+            place = (found or below)[0]
+        else:
+            return ".".join(["c"] + rest), place
     old, new = names.places[place][1]
-    if dashless(old) != dashless(rest[0]):
-        said.append(f"step {rest[0]} is not {old} ({new}) at {place}: {path}")
-        return ".".join(["c"] + rest), place
     fields = rest[1:]
     arm = names.arm_of.get(place)
     if arm and fields[:1] == ["given"]:
@@ -99,26 +109,26 @@ def turn_path(names, place, head, path, said):
 
 
 def turn_body(names, place, text, said):
+    names.start = place
     alias = {"c": place}
-    # let b = c.before.before in
-    def let(m):
-        got, p = turn_path(names, alias[m[2]], m[2], m[3], said)
-        if got is None:
-            alias[m[1]] = p
-            return m[4] if m[4].strip() else m[4]
-        return m[0]
-
-    text = re.sub(rf"\blet ({TOKEN}) = (c)((?:\.before)+) in(\s)", lambda m: (alias.__setitem__(m[1], turn_path(names, place, "c", m[3][1:], said)[1]) or m[4]), text)
+    while True:
+        heads = "|".join(sorted(map(re.escape, alias), key=len, reverse=True))
+        m = re.search(rf"\blet ({TOKEN}) = ({heads})((?:\.before)*) in(\s+)", text)
+        if not m:
+            break
+        alias[m[1]] = turn_path(names, alias[m[2]], m[2], m[3][1:], said)[1] if m[3] else alias[m[2]]
+        text = text[: m.start()] + text[m.end():]
     heads = "|".join(sorted(map(re.escape, alias), key=len, reverse=True))
 
     def path(m):
         got, _ = turn_path(names, alias[m[1]], m[1], m[2][1:], said)
         return got if got else m[0]
 
-    out = []
-    for line in text.split("\n"):
-        out.append(re.sub(rf"(?<![^\s(){{}};,])({heads})((?:\.[^\s(){{}}.;,@\"]+)+)", path, line))
-    return "\n".join(out)
+    text = re.sub(rf"(?<![^\s(){{}};,])({heads})((?:\.[^\s(){{}}.;,@\"]+)+)", path, text)
+    for a in alias:
+        if a != "c" and re.search(rf"(?<![^\s(){{}};,.]){re.escape(a)}(?![^\s(){{}};,.])", text):
+            said.append(f"{a} stays somewhere: it was {alias[a]}")
+    return text
 
 
 def convert(crate, key, d, old_text, text, folder):
@@ -215,6 +225,7 @@ def convert(crate, key, d, old_text, text, folder):
         args = m[2].split()
         here = []
         rhs = turn_body(names, place, rhs, here)
+        rhs = re.sub(r"^\s*\n", "\n", rhs) if rhs.strip().count("\n") else " " + rhs.strip() if len(rhs.strip()) < 150 else "\n    " + rhs.strip()
         said += [f"{new}: {x}" for x in here]
         if args[:1] != ["c"]:
             said.append(f"{new}: arguments {args}")

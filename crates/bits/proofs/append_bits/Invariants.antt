@@ -1,0 +1,17 @@
+-- `bits::append_bits` meets its contract: piece after piece is put into its byte.
+-- Assumes nothing.
+use Prim.Native.Nat.{◌-◌, ◌≤◌}
+use mathlib.Core.Path.{◌≡◌, refl, ◌∙◌}
+use native.Mathlib.Omega.{arith}
+use Rattle.std.proofs.Common.{rules}
+use lib.ListN.{length}
+use Rattle.standard.specs.Bits.{bits}
+use Rattle.bits.specs.Appended.{Progress, progress_start}
+use Rattle.bits.specs.Pieces.{power_some, piece_lt, piece_byte, piece_free, piece_room, piece_next, pieces_end}
+use Rattle.bits.proofs.append_bits.Given as goal
+
+abbrev pub invariant-loop-left : goal.invariant-loop-left
+invariant-loop-left l = (l.left ≤ 32) × (length l.buf ≡ length l.initial.buf) × Progress l.initial.buf l.buf l.at l.p (bits l.len l.val) (bits l.left l.val)
+
+abbrev pub decreases-loop-left : goal.decreases-loop-left
+decreases-loop-left l = l.left

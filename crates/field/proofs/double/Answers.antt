@@ -1,0 +1,8 @@
+-- `field::double` meets its contract.
+-- Assumes nothing.
+use Rattle.std.proofs.Common.{rules}
+use Rattle.field.specs.Times.{double_byte}
+use Rattle.field.proofs.double.Goals as goal
+
+pub returns : goal.returns
+returns c = double_byte c.args.z c.ranges.z.fits
