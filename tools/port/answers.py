@@ -117,7 +117,11 @@ def turn_path(names, place, head, path, said):
     callee = names.callee.get(place)
     if callee and fields[:1] in (["auto"], ["new"], ["kept"]) and fields[1:] and fields[1].isdigit():
         muts = muts_of(callee)
-        if int(fields[1]) < len(muts):
+        if len(muts) == 1:
+            while fields[1:] and fields[1].isdigit():
+                del fields[1]
+            fields = [fields[0] if fields[0] != "kept" else "auto", muts[0]] + fields[1:]
+        elif int(fields[1]) < len(muts):
             fields = [fields[0] if fields[0] != "kept" else "auto", muts[int(fields[1])]] + fields[2:]
         else:
             said.append(f"{path}: {callee} has {muts}")
@@ -161,11 +165,62 @@ def turn_body(names, place, text, said):
     for x, step in re.findall(rf"\blet ({TOKEN}) = c\.({TOKEN}) in", text):
         callee = [names.callee[q] for q in chain(names, place) if names.places[q][1][1] == step and names.callee[q]]
         muts = muts_of(callee[0]) if callee else []
+        if len(muts) == 1:
+            text = re.sub(rf"(?<![^\s(){{}};,]){re.escape(x)}\.(auto|new)(?:\.\d)+", rf"{x}.\1.{muts[0]}", text)
         text = re.sub(rf"(?<![^\s(){{}};,]){re.escape(x)}\.(auto|new)\.(\d)(?!\d)", lambda m: f"{x}.{m[1]}.{muts[int(m[2])]}" if int(m[2]) < len(muts) else m[0], text)
     for a in alias:
         if a != "c" and re.search(rf"(?<![^\s(){{}};,.]){re.escape(a)}(?![^\s(){{}};,.])", text):
             said.append(f"{a} stays somewhere: it was {alias[a]}")
     return text
+
+
+def as_record(text, fields):
+    """A tuple at the end of an answer, as a record with these fields."""
+    text = text.rstrip()
+    if not text.endswith(")"):
+        return None
+    depth, parts, end = 0, [], len(text) - 1
+    for i in range(len(text) - 1, -1, -1):
+        ch = text[i]
+        if ch in ")]}":
+            depth += 1
+        elif ch in "([{":
+            depth -= 1
+            if depth == 0:
+                parts.append(text[i + 1:end])
+                start = i
+                break
+        elif ch == "," and depth == 1:
+            parts.append(text[i + 1:end])
+            end = i
+    parts = [q for q in (q.strip() for q in reversed(parts)) if q]
+    before = text[:start]
+    if len(parts) != len(fields) or (before.strip() and not before.rstrip().endswith(" in")):
+        return None
+    return before.rstrip() + (" " if before.strip() else "") + "record { " + "; ".join(f"{f} = {q}" for f, q in zip(fields, parts)) + " }"
+
+
+def unshadowed(text, names):
+    """Gives a bound variable that is called as one of the names a prime."""
+    at = 0
+    while True:
+        m = re.compile(rf"λ (?:\(({TOKEN}) :|({TOKEN}(?: {TOKEN})*)\.)").search(text, at)
+        if not m:
+            return text
+        at = m.end()
+        v = [w for w in (m[1] or m[2]).split() if w in names]
+        if not v:
+            continue
+        v = v[0]
+        at = m.start()
+        depth, end = 0, len(text)
+        for i in range(m.start(), len(text)):
+            depth += (text[i] == "(") - (text[i] == ")")
+            if depth < 0:
+                end = i
+                break
+        scope = re.sub(rf"(?<![^\s(){{}};,.λ]){re.escape(v)}(?![^\s(){{}};,.])", v + "'", text[m.start():end])
+        text = text[: m.start()] + scope + text[end:]
 
 
 def convert(crate, key, d, old_text, text, folder):
@@ -212,7 +267,7 @@ def convert(crate, key, d, old_text, text, folder):
         for k, n in enumerate(lst):
             lines = by[n][1]
             text_n = "\n".join(lines[1:]).strip("\n")
-            m = re.match(rf"((?:unfolding .*\n)?){re.escape(n)}((?: +(?!=\s){TOKEN})*) =(\s)", text_n)
+            m = re.match(rf"((?:unfolding .*\n)?){re.escape(n)}((?: +(?!=\s)«?{TOKEN}»?)*) =(\s)", text_n)
             if not m:
                 said.append(f"{kind} {n} unread")
                 continue
@@ -231,7 +286,8 @@ def convert(crate, key, d, old_text, text, folder):
             sub = {}
             for a, (w) in zip(args, [("l.initial." + v if c else "l." + v) for v, c in zip(vs, ch)] + ["l." + v for v, c in zip(vs, ch) if c]):
                 sub[a] = w
-            rhs = re.sub(TOKEN + "|\\.", lambda t: t[0], rhs)
+            rhs = unshadowed(rhs, sub)
+            sub = {k: re.sub(r"^(l\.(?:initial\.)?)data$", r"\1«data»", w) for k, w in sub.items()}
             pat = rf"(?<![^\s(){{}};,])({'|'.join(map(re.escape, sorted(sub, key=len, reverse=True)))})(?![^\s(){{}}.;,])"
             if sub:
                 rhs = re.sub(pat, lambda t: sub[t[1]], rhs)
@@ -263,6 +319,13 @@ def convert(crate, key, d, old_text, text, folder):
         here = []
         rhs = turn_body(names, place, rhs, here)
         rhs = re.sub(r"^\s*\n", "\n", rhs) if rhs.strip().count("\n") else " " + rhs.strip() if len(rhs.strip()) < 150 else "\n    " + rhs.strip()
+        fields = d["asked"].get(new) or d["asked"].get(next((o for o, w in names.needs if w == new), ""))
+        if fields and len(fields) > 1:
+            as_one = as_record(rhs, fields)
+            if as_one:
+                rhs = as_one if as_one.startswith((" ", "\n")) else " " + as_one
+            else:
+                said.append(f"{new}: wants a record of {fields}")
         said += [f"{new}: {x}" for x in here]
         if args[:1] != ["c"]:
             said.append(f"{new}: arguments {args}")
