@@ -62,11 +62,24 @@ class Names:
         for (place, parent, step, *more), arm in zip(d["places"], d["arms"]):
             self.arm_of[place] = arm
         self.loops = d["loops"]
+        self.pre = d["pre"]
+        self.callee = {p[0]: p[3] for p in d["places"]}
+        self.typed = {p[0]: dict((b, a) for a, b in ty) for p, ty in zip(d["places"], d["typed"])}
         self.changed = d["changed"]
 
 
 def dashless(s):
     return s.replace("-", "_")
+
+
+def muts_of(callee):
+    """The names of a function's parameters that are &mut, from the sources."""
+    crate, *rest = callee.split("::")
+    base = os.path.join(ROOT, "crates", crate, "src")
+    for f in sorted(os.listdir(base)) if os.path.isdir(base) else []:
+        for m in re.finditer(rf"\bfn {rest[-1]}\(([^)]*)\)", open(os.path.join(base, f)).read()):
+            return [w.split(":")[0].strip() for w in m[1].split(",") if "&mut" in w]
+    return []
 
 
 def chain(names, place):
@@ -87,6 +100,8 @@ def turn_path(names, place, head, path, said):
     if not rest:
         return None, place
     if rest[0] in ("args", "requires", "ranges"):
+        if rest[0] == "requires" and names.pre and rest[1:] and rest[1].isdigit() and int(rest[1]) < len(names.pre["fields"]):
+            rest[1] = names.pre["fields"][int(rest[1])]
         return ".".join(["c"] + rest), place
     found = [p for p in chain(names, place) if dashless(names.places[p][1][0]) == dashless(rest[0])]
     below = [p for p in chain(names, names.start) if dashless(names.places[p][1][0]) == dashless(rest[0])]
@@ -99,6 +114,13 @@ def turn_path(names, place, head, path, said):
             return ".".join(["c"] + rest), place
     old, new = names.places[place][1]
     fields = rest[1:]
+    callee = names.callee.get(place)
+    if callee and fields[:1] in (["auto"], ["new"], ["kept"]) and fields[1:] and fields[1].isdigit():
+        muts = muts_of(callee)
+        if int(fields[1]) < len(muts):
+            fields = [fields[0] if fields[0] != "kept" else "auto", muts[int(fields[1])]] + fields[2:]
+        else:
+            said.append(f"{path}: {callee} has {muts}")
     arm = names.arm_of.get(place)
     if arm and fields[:1] == ["given"]:
         for name, step, given in arm[2]:
@@ -125,6 +147,21 @@ def turn_body(names, place, text, said):
         return got if got else m[0]
 
     text = re.sub(rf"(?<![^\s(){{}};,])({heads})((?:\.[^\s(){{}}.;,@\"]+)+)", path, text)
+    known = {}
+    for q in chain(names, place):
+        for step, var in names.typed.get(q, {}).items():
+            known.setdefault(dashless(step), var)
+    old_of = {new: old for _, (old, new) in names.places.values()}
+
+    def byte(m):
+        var = known.get(dashless(old_of.get(m[1], "")))
+        return f"(c.type_inv.{var} {m[2]}).fits" if var else m[0]
+
+    text = re.sub(r"\(c\.([^\s.()]*slice_known[^\s.()]*)\.given ((?:[^()]|\([^()]*\))+)\)\.fits", byte, text)
+    for x, step in re.findall(rf"\blet ({TOKEN}) = c\.({TOKEN}) in", text):
+        callee = [names.callee[q] for q in chain(names, place) if names.places[q][1][1] == step and names.callee[q]]
+        muts = muts_of(callee[0]) if callee else []
+        text = re.sub(rf"(?<![^\s(){{}};,]){re.escape(x)}\.(auto|new)\.(\d)(?!\d)", lambda m: f"{x}.{m[1]}.{muts[int(m[2])]}" if int(m[2]) < len(muts) else m[0], text)
     for a in alias:
         if a != "c" and re.search(rf"(?<![^\s(){{}};,.]){re.escape(a)}(?![^\s(){{}};,.])", text):
             said.append(f"{a} stays somewhere: it was {alias[a]}")
