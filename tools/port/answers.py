@@ -62,11 +62,24 @@ class Names:
         for (place, parent, step, *more), arm in zip(d["places"], d["arms"]):
             self.arm_of[place] = arm
         self.loops = d["loops"]
+        self.pre = d["pre"]
+        self.callee = {p[0]: p[3] for p in d["places"]}
+        self.typed = {p[0]: dict((b, a) for a, b in ty) for p, ty in zip(d["places"], d["typed"])}
         self.changed = d["changed"]
 
 
 def dashless(s):
     return s.replace("-", "_")
+
+
+def muts_of(callee):
+    """The names of a function's parameters that are &mut, from the sources."""
+    crate, *rest = callee.split("::")
+    base = os.path.join(ROOT, "crates", crate, "src")
+    for f in sorted(os.listdir(base)) if os.path.isdir(base) else []:
+        for m in re.finditer(rf"\bfn {rest[-1]}\(([^)]*)\)", open(os.path.join(base, f)).read()):
+            return [w.split(":")[0].strip() for w in m[1].split(",") if "&mut" in w]
+    return []
 
 
 def chain(names, place):
@@ -87,6 +100,8 @@ def turn_path(names, place, head, path, said):
     if not rest:
         return None, place
     if rest[0] in ("args", "requires", "ranges"):
+        if rest[0] == "requires" and names.pre and rest[1:] and rest[1].isdigit() and int(rest[1]) < len(names.pre["fields"]):
+            rest[1] = names.pre["fields"][int(rest[1])]
         return ".".join(["c"] + rest), place
     found = [p for p in chain(names, place) if dashless(names.places[p][1][0]) == dashless(rest[0])]
     below = [p for p in chain(names, names.start) if dashless(names.places[p][1][0]) == dashless(rest[0])]
@@ -99,6 +114,17 @@ def turn_path(names, place, head, path, said):
             return ".".join(["c"] + rest), place
     old, new = names.places[place][1]
     fields = rest[1:]
+    callee = names.callee.get(place)
+    if callee and fields[:1] in (["auto"], ["new"], ["kept"]) and fields[1:] and fields[1].isdigit():
+        muts = muts_of(callee)
+        if len(muts) == 1:
+            while fields[1:] and fields[1].isdigit():
+                del fields[1]
+            fields = [fields[0] if fields[0] != "kept" else "auto", muts[0]] + fields[1:]
+        elif int(fields[1]) < len(muts):
+            fields = [fields[0] if fields[0] != "kept" else "auto", muts[int(fields[1])]] + fields[2:]
+        else:
+            said.append(f"{path}: {callee} has {muts}")
     arm = names.arm_of.get(place)
     if arm and fields[:1] == ["given"]:
         for name, step, given in arm[2]:
@@ -125,10 +151,76 @@ def turn_body(names, place, text, said):
         return got if got else m[0]
 
     text = re.sub(rf"(?<![^\s(){{}};,])({heads})((?:\.[^\s(){{}}.;,@\"]+)+)", path, text)
+    known = {}
+    for q in chain(names, place):
+        for step, var in names.typed.get(q, {}).items():
+            known.setdefault(dashless(step), var)
+    old_of = {new: old for _, (old, new) in names.places.values()}
+
+    def byte(m):
+        var = known.get(dashless(old_of.get(m[1], "")))
+        return f"(c.type_inv.{var} {m[2]}).fits" if var else m[0]
+
+    text = re.sub(r"\(c\.([^\s.()]*slice_known[^\s.()]*)\.given ((?:[^()]|\([^()]*\))+)\)\.fits", byte, text)
+    for x, step in re.findall(rf"\blet ({TOKEN}) = c\.({TOKEN}) in", text):
+        callee = [names.callee[q] for q in chain(names, place) if names.places[q][1][1] == step and names.callee[q]]
+        muts = muts_of(callee[0]) if callee else []
+        if len(muts) == 1:
+            text = re.sub(rf"(?<![^\s(){{}};,]){re.escape(x)}\.(auto|new)(?:\.\d)+", rf"{x}.\1.{muts[0]}", text)
+        text = re.sub(rf"(?<![^\s(){{}};,]){re.escape(x)}\.(auto|new)\.(\d)(?!\d)", lambda m: f"{x}.{m[1]}.{muts[int(m[2])]}" if int(m[2]) < len(muts) else m[0], text)
     for a in alias:
         if a != "c" and re.search(rf"(?<![^\s(){{}};,.]){re.escape(a)}(?![^\s(){{}};,.])", text):
             said.append(f"{a} stays somewhere: it was {alias[a]}")
     return text
+
+
+def as_record(text, fields):
+    """A tuple at the end of an answer, as a record with these fields."""
+    text = text.rstrip()
+    if not text.endswith(")"):
+        return None
+    depth, parts, end = 0, [], len(text) - 1
+    for i in range(len(text) - 1, -1, -1):
+        ch = text[i]
+        if ch in ")]}":
+            depth += 1
+        elif ch in "([{":
+            depth -= 1
+            if depth == 0:
+                parts.append(text[i + 1:end])
+                start = i
+                break
+        elif ch == "," and depth == 1:
+            parts.append(text[i + 1:end])
+            end = i
+    parts = [q for q in (q.strip() for q in reversed(parts)) if q]
+    before = text[:start]
+    if len(parts) != len(fields) or (before.strip() and not before.rstrip().endswith(" in")):
+        return None
+    return before.rstrip() + (" " if before.strip() else "") + "record { " + "; ".join(f"{f} = {q}" for f, q in zip(fields, parts)) + " }"
+
+
+def unshadowed(text, names):
+    """Gives a bound variable that is called as one of the names a prime."""
+    at = 0
+    while True:
+        m = re.compile(rf"λ (?:\(({TOKEN}) :|({TOKEN}(?: {TOKEN})*)\.)").search(text, at)
+        if not m:
+            return text
+        at = m.end()
+        v = [w for w in (m[1] or m[2]).split() if w in names]
+        if not v:
+            continue
+        v = v[0]
+        at = m.start()
+        depth, end = 0, len(text)
+        for i in range(m.start(), len(text)):
+            depth += (text[i] == "(") - (text[i] == ")")
+            if depth < 0:
+                end = i
+                break
+        scope = re.sub(rf"(?<![^\s(){{}};,.λ]){re.escape(v)}(?![^\s(){{}};,.])", v + "'", text[m.start():end])
+        text = text[: m.start()] + scope + text[end:]
 
 
 def convert(crate, key, d, old_text, text, folder):
@@ -175,7 +267,7 @@ def convert(crate, key, d, old_text, text, folder):
         for k, n in enumerate(lst):
             lines = by[n][1]
             text_n = "\n".join(lines[1:]).strip("\n")
-            m = re.match(rf"((?:unfolding .*\n)?){re.escape(n)}((?: +(?!=\s){TOKEN})*) =(\s)", text_n)
+            m = re.match(rf"((?:unfolding .*\n)?){re.escape(n)}((?: +(?!=\s)«?{TOKEN}»?)*) =(\s)", text_n)
             if not m:
                 said.append(f"{kind} {n} unread")
                 continue
@@ -194,7 +286,8 @@ def convert(crate, key, d, old_text, text, folder):
             sub = {}
             for a, (w) in zip(args, [("l.initial." + v if c else "l." + v) for v, c in zip(vs, ch)] + ["l." + v for v, c in zip(vs, ch) if c]):
                 sub[a] = w
-            rhs = re.sub(TOKEN + "|\\.", lambda t: t[0], rhs)
+            rhs = unshadowed(rhs, sub)
+            sub = {k: re.sub(r"^(l\.(?:initial\.)?)data$", r"\1«data»", w) for k, w in sub.items()}
             pat = rf"(?<![^\s(){{}};,])({'|'.join(map(re.escape, sorted(sub, key=len, reverse=True)))})(?![^\s(){{}}.;,])"
             if sub:
                 rhs = re.sub(pat, lambda t: sub[t[1]], rhs)
@@ -226,6 +319,13 @@ def convert(crate, key, d, old_text, text, folder):
         here = []
         rhs = turn_body(names, place, rhs, here)
         rhs = re.sub(r"^\s*\n", "\n", rhs) if rhs.strip().count("\n") else " " + rhs.strip() if len(rhs.strip()) < 150 else "\n    " + rhs.strip()
+        fields = d["asked"].get(new) or d["asked"].get(next((o for o, w in names.needs if w == new), ""))
+        if fields and len(fields) > 1:
+            as_one = as_record(rhs, fields)
+            if as_one:
+                rhs = as_one if as_one.startswith((" ", "\n")) else " " + as_one
+            else:
+                said.append(f"{new}: wants a record of {fields}")
         said += [f"{new}: {x}" for x in here]
         if args[:1] != ["c"]:
             said.append(f"{new}: arguments {args}")
