@@ -63,6 +63,7 @@ class Names:
             self.arm_of[place] = arm
         self.loops = d["loops"]
         self.pre = d["pre"]
+        self.params = d["params"]
         self.callee = {p[0]: p[3] for p in d["places"]}
         self.typed = {p[0]: dict((b, a) for a, b in ty) for p, ty in zip(d["places"], d["typed"])}
         self.changed = d["changed"]
@@ -70,6 +71,33 @@ class Names:
 
 def dashless(s):
     return s.replace("-", "_")
+
+
+def clause_path(fields, clauses):
+    """1.1.0 of clauses that were nested pairs, as the clause's name."""
+    if len(clauses) < 2 or not fields or fields[0] not in ("0", "1"):
+        return fields
+    i, k = 0, 0
+    while k < len(fields) and fields[k] == "1" and i < len(clauses) - 1:
+        i += 1
+        k += 1
+    if i < len(clauses) - 1:
+        if k < len(fields) and fields[k] == "0":
+            k += 1
+        else:
+            return fields
+    return [clauses[i]] + fields[k:]
+
+
+def ensures_of(callee):
+    """The names of a function's ensures, from the sources."""
+    crate, *rest = callee.split("::")
+    base = os.path.join(ROOT, "crates", crate, "src")
+    for f in sorted(os.listdir(base)) if os.path.isdir(base) else []:
+        m = re.search(rf"\bfn {rest[-1]}\([^)]*\)(.*?)\n *\{{\n", open(os.path.join(base, f)).read(), re.S)
+        if m:
+            return re.findall(r"\n\s*ensures (\w+) \{", m[1])
+    return []
 
 
 def muts_of(callee):
@@ -100,8 +128,8 @@ def turn_path(names, place, head, path, said):
     if not rest:
         return None, place
     if rest[0] in ("args", "requires", "ranges"):
-        if rest[0] == "requires" and names.pre and rest[1:] and rest[1].isdigit() and int(rest[1]) < len(names.pre["fields"]):
-            rest[1] = names.pre["fields"][int(rest[1])]
+        if rest[0] == "requires" and names.pre:
+            rest[1:] = clause_path(rest[1:], names.pre["fields"])
         return ".".join(["c"] + rest), place
     found = [p for p in chain(names, place) if dashless(names.places[p][1][0]) == dashless(rest[0])]
     below = [p for p in chain(names, names.start) if dashless(names.places[p][1][0]) == dashless(rest[0])]
@@ -117,7 +145,13 @@ def turn_path(names, place, head, path, said):
     callee = names.callee.get(place)
     if callee and fields[:1] in (["auto"], ["new"], ["kept"]) and fields[1:] and fields[1].isdigit():
         muts = muts_of(callee)
-        if len(muts) == 1:
+        params = names.params.get(callee, [])
+        k = 1
+        while fields[k:k + 1] == ["1"]:
+            k += 1
+        if fields[k:k + 1] == ["0"] and k - 1 < len(params):
+            fields = ["new" if fields[0] == "new" else "auto", params[k - 1]] + fields[k + 1:]
+        elif len(muts) == 1:
             while fields[1:] and fields[1].isdigit():
                 del fields[1]
             fields = [fields[0] if fields[0] != "kept" else "auto", muts[0]] + fields[1:]
@@ -125,6 +159,8 @@ def turn_path(names, place, head, path, said):
             fields = [fields[0] if fields[0] != "kept" else "auto", muts[int(fields[1])]] + fields[2:]
         else:
             said.append(f"{path}: {callee} has {muts}")
+    if callee and fields[:1] == ["ensures"]:
+        fields[1:] = clause_path(fields[1:], ensures_of(callee))
     arm = names.arm_of.get(place)
     if arm and fields[:1] == ["given"]:
         for name, step, given in arm[2]:
@@ -165,6 +201,11 @@ def turn_body(names, place, text, said):
     for x, step in re.findall(rf"\blet ({TOKEN}) = c\.({TOKEN}) in", text):
         callee = [names.callee[q] for q in chain(names, place) if names.places[q][1][1] == step and names.callee[q]]
         muts = muts_of(callee[0]) if callee else []
+        params = names.params.get(callee[0], []) if callee else []
+        text = re.sub(rf"(?<![^\s(){{}};,]){re.escape(x)}\.(auto|new)((?:\.1)*)\.0(?!\d)", lambda m: f"{x}.{m[1]}.{params[m[2].count('1')]}" if m[2].count("1") < len(params) else m[0], text)
+        names_of = ensures_of(callee[0]) if callee else []
+        if len(names_of) > 1:
+            text = re.sub(rf"(?<![^\s(){{}};,]){re.escape(x)}\.ensures((?:\.\d)+)", lambda m: ".".join([x, "ensures"] + clause_path(m[1][1:].split("."), names_of)), text)
         if len(muts) == 1:
             text = re.sub(rf"(?<![^\s(){{}};,]){re.escape(x)}\.(auto|new)(?:\.\d)+", rf"{x}.\1.{muts[0]}", text)
         text = re.sub(rf"(?<![^\s(){{}};,]){re.escape(x)}\.(auto|new)\.(\d)(?!\d)", lambda m: f"{x}.{m[1]}.{muts[int(m[2])]}" if int(m[2]) < len(muts) else m[0], text)
@@ -172,6 +213,17 @@ def turn_body(names, place, text, said):
         if a != "c" and re.search(rf"(?<![^\s(){{}};,.]){re.escape(a)}(?![^\s(){{}};,.])", text):
             said.append(f"{a} stays somewhere: it was {alias[a]}")
     return text
+
+
+def top_parts(text):
+    depth, out, last = 0, [], 0
+    for i, ch in enumerate(text):
+        depth += (ch in "([{") - (ch in ")]}")
+        if ch == "," and depth == 0:
+            out.append(text[last:i].strip())
+            last = i + 1
+    out.append(text[last:].strip())
+    return [q for q in out if q]
 
 
 def as_record(text, fields):
@@ -194,6 +246,13 @@ def as_record(text, fields):
             parts.append(text[i + 1:end])
             end = i
     parts = [q for q in (q.strip() for q in reversed(parts)) if q]
+    while len(parts) < len(fields) and parts[-1].startswith("(") and parts[-1].endswith(")"):
+        more = top_parts(parts[-1][1:-1])
+        if len(more) < 2:
+            break
+        if len(parts) + len(more) - 1 > len(fields):
+            break
+        parts[-1:] = more
     before = text[:start]
     if len(parts) != len(fields) or (before.strip() and not before.rstrip().endswith(" in")):
         return None
