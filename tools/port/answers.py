@@ -62,11 +62,52 @@ class Names:
         for (place, parent, step, *more), arm in zip(d["places"], d["arms"]):
             self.arm_of[place] = arm
         self.loops = d["loops"]
+        self.pre = d["pre"]
+        self.params = d["params"]
+        self.callee = {p[0]: p[3] for p in d["places"]}
+        self.typed = {p[0]: dict((b, a) for a, b in ty) for p, ty in zip(d["places"], d["typed"])}
         self.changed = d["changed"]
 
 
 def dashless(s):
     return s.replace("-", "_")
+
+
+def clause_path(fields, clauses):
+    """1.1.0 of clauses that were nested pairs, as the clause's name."""
+    if len(clauses) < 2 or not fields or fields[0] not in ("0", "1"):
+        return fields
+    i, k = 0, 0
+    while k < len(fields) and fields[k] == "1" and i < len(clauses) - 1:
+        i += 1
+        k += 1
+    if i < len(clauses) - 1:
+        if k < len(fields) and fields[k] == "0":
+            k += 1
+        else:
+            return fields
+    return [clauses[i]] + fields[k:]
+
+
+def ensures_of(callee):
+    """The names of a function's ensures, from the sources."""
+    crate, *rest = callee.split("::")
+    base = os.path.join(ROOT, "crates", crate, "src")
+    for f in sorted(os.listdir(base)) if os.path.isdir(base) else []:
+        m = re.search(rf"\bfn {rest[-1]}\([^)]*\)(.*?)\n *\{{\n", open(os.path.join(base, f)).read(), re.S)
+        if m:
+            return re.findall(r"\n\s*ensures (\w+) \{", m[1])
+    return []
+
+
+def muts_of(callee):
+    """The names of a function's parameters that are &mut, from the sources."""
+    crate, *rest = callee.split("::")
+    base = os.path.join(ROOT, "crates", crate, "src")
+    for f in sorted(os.listdir(base)) if os.path.isdir(base) else []:
+        for m in re.finditer(rf"\bfn {rest[-1]}\(([^)]*)\)", open(os.path.join(base, f)).read()):
+            return [w.split(":")[0].strip() for w in m[1].split(",") if "&mut" in w]
+    return []
 
 
 def chain(names, place):
@@ -87,6 +128,8 @@ def turn_path(names, place, head, path, said):
     if not rest:
         return None, place
     if rest[0] in ("args", "requires", "ranges"):
+        if rest[0] == "requires" and names.pre:
+            rest[1:] = clause_path(rest[1:], names.pre["fields"])
         return ".".join(["c"] + rest), place
     found = [p for p in chain(names, place) if dashless(names.places[p][1][0]) == dashless(rest[0])]
     below = [p for p in chain(names, names.start) if dashless(names.places[p][1][0]) == dashless(rest[0])]
@@ -99,6 +142,25 @@ def turn_path(names, place, head, path, said):
             return ".".join(["c"] + rest), place
     old, new = names.places[place][1]
     fields = rest[1:]
+    callee = names.callee.get(place)
+    if callee and fields[:1] in (["auto"], ["new"], ["kept"]) and fields[1:] and fields[1].isdigit():
+        muts = muts_of(callee)
+        params = names.params.get(callee, [])
+        k = 1
+        while fields[k:k + 1] == ["1"]:
+            k += 1
+        if fields[k:k + 1] == ["0"] and k - 1 < len(params):
+            fields = ["new" if fields[0] == "new" else "auto", params[k - 1]] + fields[k + 1:]
+        elif len(muts) == 1:
+            while fields[1:] and fields[1].isdigit():
+                del fields[1]
+            fields = [fields[0] if fields[0] != "kept" else "auto", muts[0]] + fields[1:]
+        elif int(fields[1]) < len(muts):
+            fields = [fields[0] if fields[0] != "kept" else "auto", muts[int(fields[1])]] + fields[2:]
+        else:
+            said.append(f"{path}: {callee} has {muts}")
+    if callee and fields[:1] == ["ensures"]:
+        fields[1:] = clause_path(fields[1:], ensures_of(callee))
     arm = names.arm_of.get(place)
     if arm and fields[:1] == ["given"]:
         for name, step, given in arm[2]:
@@ -125,10 +187,99 @@ def turn_body(names, place, text, said):
         return got if got else m[0]
 
     text = re.sub(rf"(?<![^\s(){{}};,])({heads})((?:\.[^\s(){{}}.;,@\"]+)+)", path, text)
+    known = {}
+    for q in chain(names, place):
+        for step, var in names.typed.get(q, {}).items():
+            known.setdefault(dashless(step), var)
+    old_of = {new: old for _, (old, new) in names.places.values()}
+
+    def byte(m):
+        var = known.get(dashless(old_of.get(m[1], "")))
+        return f"(c.type_inv.{var} {m[2]}).fits" if var else m[0]
+
+    text = re.sub(r"\(c\.([^\s.()]*slice_known[^\s.()]*)\.given ((?:[^()]|\([^()]*\))+)\)\.fits", byte, text)
+    for x, step in re.findall(rf"\blet ({TOKEN}) = c\.({TOKEN}) in", text):
+        callee = [names.callee[q] for q in chain(names, place) if names.places[q][1][1] == step and names.callee[q]]
+        muts = muts_of(callee[0]) if callee else []
+        params = names.params.get(callee[0], []) if callee else []
+        text = re.sub(rf"(?<![^\s(){{}};,]){re.escape(x)}\.(auto|new)((?:\.1)*)\.0(?!\d)", lambda m: f"{x}.{m[1]}.{params[m[2].count('1')]}" if m[2].count("1") < len(params) else m[0], text)
+        names_of = ensures_of(callee[0]) if callee else []
+        if len(names_of) > 1:
+            text = re.sub(rf"(?<![^\s(){{}};,]){re.escape(x)}\.ensures((?:\.\d)+)", lambda m: ".".join([x, "ensures"] + clause_path(m[1][1:].split("."), names_of)), text)
+        if len(muts) == 1:
+            text = re.sub(rf"(?<![^\s(){{}};,]){re.escape(x)}\.(auto|new)(?:\.\d)+", rf"{x}.\1.{muts[0]}", text)
+        text = re.sub(rf"(?<![^\s(){{}};,]){re.escape(x)}\.(auto|new)\.(\d)(?!\d)", lambda m: f"{x}.{m[1]}.{muts[int(m[2])]}" if int(m[2]) < len(muts) else m[0], text)
     for a in alias:
         if a != "c" and re.search(rf"(?<![^\s(){{}};,.]){re.escape(a)}(?![^\s(){{}};,.])", text):
             said.append(f"{a} stays somewhere: it was {alias[a]}")
     return text
+
+
+def top_parts(text):
+    depth, out, last = 0, [], 0
+    for i, ch in enumerate(text):
+        depth += (ch in "([{") - (ch in ")]}")
+        if ch == "," and depth == 0:
+            out.append(text[last:i].strip())
+            last = i + 1
+    out.append(text[last:].strip())
+    return [q for q in out if q]
+
+
+def as_record(text, fields):
+    """A tuple at the end of an answer, as a record with these fields."""
+    text = text.rstrip()
+    if not text.endswith(")"):
+        return None
+    depth, parts, end = 0, [], len(text) - 1
+    for i in range(len(text) - 1, -1, -1):
+        ch = text[i]
+        if ch in ")]}":
+            depth += 1
+        elif ch in "([{":
+            depth -= 1
+            if depth == 0:
+                parts.append(text[i + 1:end])
+                start = i
+                break
+        elif ch == "," and depth == 1:
+            parts.append(text[i + 1:end])
+            end = i
+    parts = [q for q in (q.strip() for q in reversed(parts)) if q]
+    while len(parts) < len(fields) and parts[-1].startswith("(") and parts[-1].endswith(")"):
+        more = top_parts(parts[-1][1:-1])
+        if len(more) < 2:
+            break
+        if len(parts) + len(more) - 1 > len(fields):
+            break
+        parts[-1:] = more
+    before = text[:start]
+    if len(parts) != len(fields) or (before.strip() and not before.rstrip().endswith(" in")):
+        return None
+    return before.rstrip() + (" " if before.strip() else "") + "record { " + "; ".join(f"{f} = {q}" for f, q in zip(fields, parts)) + " }"
+
+
+def unshadowed(text, names):
+    """Gives a bound variable that is called as one of the names a prime."""
+    at = 0
+    while True:
+        m = re.compile(rf"λ (?:\(({TOKEN}) :|({TOKEN}(?: {TOKEN})*)\.)").search(text, at)
+        if not m:
+            return text
+        at = m.end()
+        v = [w for w in (m[1] or m[2]).split() if w in names]
+        if not v:
+            continue
+        v = v[0]
+        at = m.start()
+        depth, end = 0, len(text)
+        for i in range(m.start(), len(text)):
+            depth += (text[i] == "(") - (text[i] == ")")
+            if depth < 0:
+                end = i
+                break
+        scope = re.sub(rf"(?<![^\s(){{}};,.λ]){re.escape(v)}(?![^\s(){{}};,.])", v + "'", text[m.start():end])
+        text = text[: m.start()] + scope + text[end:]
 
 
 def convert(crate, key, d, old_text, text, folder):
@@ -175,7 +326,7 @@ def convert(crate, key, d, old_text, text, folder):
         for k, n in enumerate(lst):
             lines = by[n][1]
             text_n = "\n".join(lines[1:]).strip("\n")
-            m = re.match(rf"((?:unfolding .*\n)?){re.escape(n)}((?: +(?!=\s){TOKEN})*) =(\s)", text_n)
+            m = re.match(rf"((?:unfolding .*\n)?){re.escape(n)}((?: +(?!=\s)«?{TOKEN}»?)*) =(\s)", text_n)
             if not m:
                 said.append(f"{kind} {n} unread")
                 continue
@@ -194,7 +345,8 @@ def convert(crate, key, d, old_text, text, folder):
             sub = {}
             for a, (w) in zip(args, [("l.initial." + v if c else "l." + v) for v, c in zip(vs, ch)] + ["l." + v for v, c in zip(vs, ch) if c]):
                 sub[a] = w
-            rhs = re.sub(TOKEN + "|\\.", lambda t: t[0], rhs)
+            rhs = unshadowed(rhs, sub)
+            sub = {k: re.sub(r"^(l\.(?:initial\.)?)data$", r"\1«data»", w) for k, w in sub.items()}
             pat = rf"(?<![^\s(){{}};,])({'|'.join(map(re.escape, sorted(sub, key=len, reverse=True)))})(?![^\s(){{}}.;,])"
             if sub:
                 rhs = re.sub(pat, lambda t: sub[t[1]], rhs)
@@ -226,6 +378,13 @@ def convert(crate, key, d, old_text, text, folder):
         here = []
         rhs = turn_body(names, place, rhs, here)
         rhs = re.sub(r"^\s*\n", "\n", rhs) if rhs.strip().count("\n") else " " + rhs.strip() if len(rhs.strip()) < 150 else "\n    " + rhs.strip()
+        fields = d["asked"].get(new) or d["asked"].get(next((o for o, w in names.needs if w == new), ""))
+        if fields and len(fields) > 1:
+            as_one = as_record(rhs, fields)
+            if as_one:
+                rhs = as_one if as_one.startswith((" ", "\n")) else " " + as_one
+            else:
+                said.append(f"{new}: wants a record of {fields}")
         said += [f"{new}: {x}" for x in here]
         if args[:1] != ["c"]:
             said.append(f"{new}: arguments {args}")

@@ -1,5 +1,6 @@
 // A label drawn with the mask that is asked for, or with the automatic choice: the lowest mask of least penalty.
 #![tactic(auto)]
+
 ghost use Rattle.std.specs.Prelude.{◌≡◌, ◌*◌, ◌<◌, ◌≤◌, length};
 ghost use Rattle.standard.specs.Sizes.{side};
 ghost use Rattle.standard.specs.Format.{format_word};

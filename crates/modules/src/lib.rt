@@ -1,5 +1,6 @@
 // Data modules in the work grid of `patterns`: codewords along the zigzag, masks, and the finished grid.
 #![tactic(auto)]
+
 mod mask; // mask.rt: the eight masks
 mod question; // question.rt: one module of a grid
 mod read; // read.rt: level, mask and codewords are read back

@@ -1,5 +1,6 @@
 // The penalty of a grid on packed lines: runs, cores, squares and dark modules by shifts and population counts.
 #![tactic(auto)]
+
 ghost use Rattle.std.specs.Prelude.{◌≡◌, ℕ, ◌*◌, ◌<◌, ◌≤◌, length};
 ghost use Rattle.standard.specs.Penalty.{penalty};
 ghost use Rattle.laws.specs.Grid.{paint};

@@ -1,5 +1,6 @@
 // The strict parser of data codewords: a step at a bit, and two passes over all of them, which count and write.
 #![tactic(auto)]
+
 mod eci_number; // eci_number.rt: ECI numbers
 mod steps; // steps.rt: one segment
 mod tail; // tail.rt: what follows the segments

@@ -1,6 +1,7 @@
 // Function patterns: timing, finders, alignment, format and version, drawn in a work grid of size * size bytes, one a module:
 // 0 and 1 are data modules, light and dark; 2 and 3 are function modules, light and dark.
 #![tactic(auto)]
+
 mod alignment; // alignment.rt: alignment patterns
 mod format; // format.rt: format and version bits
 

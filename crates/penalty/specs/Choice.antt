@@ -9,7 +9,7 @@ use Rattle.standard.specs.Grid.{grid}
 use Rattle.standard.specs.Penalty.{penalty}
 use Rattle.standard.specs.Choice.{lowest, place_of_least, scores, chosen}
 use Rattle.laws.specs.Tests.{compared}
-use Rattle.laws.specs.Lists.{length_tabulate, get_d_tabulate, past}
+use Rattle.laws.specs.Lists.{length_tabulate, get_d_tabulate}
 
 -- ---- the least number of a list
 

@@ -1,5 +1,6 @@
 // The penalty of a grid: runs, finder-like patterns, squares and balance.
 #![tactic(auto)]
+
 ghost use Rattle.std.specs.Prelude.{◌≡◌, ℕ, ◌+◌, ◌-◌, ◌*◌, ◌%◌, ◌<◌, ◌≤◌, cond, ◌&&◌, leb, eqb, length, get_or};
 ghost use Rattle.standard.specs.Numbers.{apart, one, sum, tabulate};
 ghost use Rattle.standard.specs.Penalty.{row, column, run_cost, line_cost, balance, penalty};

@@ -1,5 +1,6 @@
 // Segments: characters and ECI numbers as bits, records that name parts of one lent text, and the data codewords.
 #![tactic(auto)]
+
 ghost use Rattle.std.specs.Prelude.{◌≡◌, ◌^◌, ◌<◌, ◌≤◌, T};
 ghost use Rattle.standard.specs.Numbers.{every};
 ghost use Rattle.standard.specs.Kinds.{code, is_digit, is_alphanumeric, allowed};

@@ -53,7 +53,7 @@ loop-left-preserved c =
     let a = c.args in
     let w = c.in_byte-w.result in (
       omega arith,
-      c.put_bits.auto.0 ∙ l.invariant.1,
+      c.put_bits.auto.buf ∙ l.invariant.1,
       piece_next a.buf.now l.buf a.at l.p a.len l.left w a.val c.requires.1 l.invariant.2 (omega arith) (omega arith) _ c.put_bits.ensures,
     )
 

@@ -21,26 +21,22 @@ overflow_mul-r c =
     let f : l.r * 256 + 0 < 2 ^ 64 = gather_fits a.buf.now (a.at / 8) l.j l.r 0 l.invariant.1 (omega arith) (omega arith) (omega arith) in
     record { fits = omega arith }
 
-byte_lt : (c : tie.After-shared-slice-known invariant-loop decreases-loop)
-    → get_or c.before.before.before.args.buf.now (c.before.before.before.args.at / 8 + c.before.before.loop.j) 0 < 256
-byte_lt c = (c.shared-slice-known.given (c.before.before.before.args.at / 8 + c.before.before.loop.j)).fits
-
 pub overflow_cast-r : goal.overflow_cast-r
-overflow_cast-r c = let b = byte_lt c in record { fits = omega arith }
+overflow_cast-r c = let b = (c.type_inv.buf (c.args.at / 8 + c.loop-j.j)).fits in record { fits = omega arith }
 
 pub overflow_add-r-in-loop-j : goal.overflow_add-r-in-loop-j
 overflow_add-r-in-loop-j c =
     let a = c.args in
     let l = c.loop-j in
     record {
-      fits = gather_fits a.buf.now (a.at / 8) l.j l.r (get_or a.buf.now (a.at / 8 + l.j) 0) l.invariant.1 (omega arith) (omega arith) (byte_lt c);
+      fits = gather_fits a.buf.now (a.at / 8) l.j l.r (get_or a.buf.now (a.at / 8 + l.j) 0) l.invariant.1 (omega arith) (omega arith) ((c.type_inv.buf (c.args.at / 8 + c.loop-j.j)).fits);
     }
 
 pub loop-j-preserved : goal.loop-j-preserved
 loop-j-preserved c =
     let a = c.args in
     let l = c.loop-j in
-    (search rules, gather_next a.buf.now (a.at / 8) l.j l.r (get_or a.buf.now (a.at / 8 + l.j) 0) l.invariant.1 refl (byte_lt c) (omega arith))
+    (search rules, gather_next a.buf.now (a.at / 8) l.j l.r (get_or a.buf.now (a.at / 8 + l.j) 0) l.invariant.1 refl ((c.type_inv.buf (c.args.at / 8 + c.loop-j.j)).fits) (omega arith))
 
 pub nonzero_rem-result : goal.nonzero_rem-result
 nonzero_rem-result c =

@@ -12,13 +12,13 @@ use Rattle.field.specs.Multiples.{step_in, get_d_step_in, length_step_in, front_
 use Rattle.field.proofs.divide_step.Goals as goal
 
 pub overflow_cast-factor : goal.overflow_cast-factor
-overflow_cast-factor c = Fits-under _ _ 256 (xor_lt 8 _ _ c.ranges.b.fits (c.slice_known-1.given _).fits) tt
+overflow_cast-factor c = Fits-under _ _ 256 (xor_lt 8 _ _ c.ranges.b.fits (c.type_inv.rest _).fits) tt
 
 pub overflow_mul-h : goal.overflow_mul-h
-overflow_mul-h c = Fits-under _ _ 512 (high_row _ (xor_lt 8 _ _ c.ranges.b.fits (c.slice_known-1.given _).fits)) tt
+overflow_mul-h c = Fits-under _ _ 512 (high_row _ (xor_lt 8 _ _ c.ranges.b.fits (c.type_inv.rest _).fits)) tt
 
 pub loop-j-init : goal.loop-j-init
-loop-j-init c = (search rules, search rules, xor_lt 8 _ _ c.ranges.b.fits (c.slice_known-1.given _).fits, refl)
+loop-j-init c = (search rules, search rules, xor_lt 8 _ _ c.ranges.b.fits (c.type_inv.rest _).fits, refl)
 
 pub loop-j-preserved : goal.loop-j-preserved
 loop-j-preserved c =

@@ -15,7 +15,7 @@ loop-n-init c =
 pub loop-n-preserved : goal.loop-n-preserved
 loop-n-preserved c =
     let r = c.next_row in
-    (search rules, search rules, c.loop-n.invariant.2, r.auto.0 ∙ c.loop-n.invariant.3, r.ensures)
+    (search rules, search rules, c.loop-n.invariant.2, r.auto.rows ∙ c.loop-n.invariant.3, r.ensures)
 
 pub returns : goal.returns
 returns c =

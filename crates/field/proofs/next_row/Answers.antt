@@ -14,12 +14,12 @@ pub loop-j-init : goal.loop-j-init
 loop-j-init c =
     let a = c.args in
     let e : a.n * 32 ≡ a.n * 32 + 0 = omega arith in
-    (search rules, search rules, subst (λ (k : ℕ). take k a.rows.now ≡ take k (multiples_of a.base.now)) e c.requires.1)
+    (search rules, search rules, subst (λ (k : ℕ). take k a.rows.now ≡ take k (multiples_of a.base.now)) e c.requires.rows_value)
 
 pub overflow_mul-rows : goal.overflow_mul-rows
 overflow_mul-rows c =
     let a = c.args in
-    record { fits = bit_lt (a.n % 2) (get_or a.base.now c.loop-j.j 0) (omega arith) (c.shared_slice_known-in-loop-j-1.given c.loop-j.j).fits }
+    record { fits = bit_lt (a.n % 2) (get_or a.base.now c.loop-j.j 0) (omega arith) (c.type_inv.base c.loop-j.j).fits }
 
 pub loop-j-preserved : goal.loop-j-preserved
 loop-j-preserved c =
@@ -31,7 +31,7 @@ loop-j-preserved c =
     let d = c.double in (
       omega arith,
       length-set o (a.n * 32 + j) (bit_xor d.result (a.n % 2 * get_or a.base.now j 0)) ∙ inv.1,
-      row_turn a.base.now a.rows.now o h.result a.n j d.result (omega arith) (omega arith) c.requires.1 h.ensures inv.1 inv.2 (omega arith) d.ensures,
+      row_turn a.base.now a.rows.now o h.result a.n j d.result (omega arith) (omega arith) c.requires.rows_value h.ensures inv.1 inv.2 (omega arith) d.ensures,
     )
 
 pub returns : goal.returns

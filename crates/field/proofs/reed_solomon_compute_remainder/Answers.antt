@@ -16,17 +16,17 @@ loop-i-init c = let a = c.args in (search rules, refl, divide_start a.divisor.no
 
 pub divide_step-requires : goal.divide_step-requires
 divide_step-requires c =
-    let t = c.requires.1 in
+    let t = c.requires.tables in
     (c.loop-i.invariant.1, ap length t.0 ∙ length_multiples c.args.divisor.now, ap length t.1 ∙ length_multiples (scale 16 c.args.divisor.now))
 
 pub loop-i-preserved : goal.loop-i-preserved
 loop-i-preserved c =
     let d = c.divide_step in (
       omega arith,
-      d.auto.0 ∙ c.loop-i.invariant.1,
-      divide_turn c.args.divisor.now c.args.«data».now c.args.low.now c.args.high.now c.loop-i.rest d.new.0 c.loop-i.i
-          c.loop-i.invariant.2 d.ensures c.requires.1 (omega arith) (omega arith)
-          (λ i. (c.shared_slice_known-2-1.given i).fits) (λ i. (c.shared_slice_known-1.given i).fits) (omega arith),
+      d.auto.rest ∙ c.loop-i.invariant.1,
+      divide_turn c.args.divisor.now c.args.«data».now c.args.low.now c.args.high.now c.loop-i.rest d.new.rest c.loop-i.i
+          c.loop-i.invariant.2 d.ensures c.requires.tables (omega arith) (omega arith)
+          (λ i. (c.type_inv.divisor i).fits) (λ i. (c.type_inv.data i).fits) (omega arith),
     )
 
 pub returns : goal.returns

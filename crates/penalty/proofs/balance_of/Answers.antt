@@ -4,10 +4,9 @@ use lib.Dec.{leb}
 use Rattle.penalty.specs.Squares.{least_here, least_on, least_end, fits}
 use Rattle.standard.specs.Penalty.{balance}
 use Rattle.standard.specs.Numbers.{least}
-use Prim.Native.Nat.{ℕ, ◌+◌, ◌-◌, ◌*◌, ◌≤◌}
-use mathlib.Core.Path.{◌≡◌, sym, ap, ◌∙◌}
+use Prim.Native.Nat.{ℕ, ◌+◌, ◌*◌}
+use mathlib.Core.Path.{sym, ap, ◌∙◌}
 use native.Mathlib.Omega.{arith}
-use Rattle.std.proofs.Common.{rules}
 use Rattle.penalty.proofs.balance_of.Goals as goal
 
 pub loop-k-init : goal.loop-k-init

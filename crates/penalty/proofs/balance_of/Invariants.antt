@@ -1,17 +1,14 @@
 -- `penalty::balance_of` meets its contract. No number passed balances dark and light.
 -- Assumes nothing.
 use lib.Dec.{leb}
-use Rattle.penalty.specs.Squares.{least_here, least_on, least_end, fits}
 use Rattle.standard.specs.Penalty.{balance}
 use Rattle.standard.specs.Numbers.{least}
-use Prim.Native.Nat.{ℕ, ◌+◌, ◌-◌, ◌*◌, ◌≤◌}
-use mathlib.Core.Path.{◌≡◌, sym, ap, ◌∙◌}
-use native.Mathlib.Omega.{arith}
-use Rattle.std.proofs.Common.{rules}
+use Prim.Native.Nat.{◌+◌, ◌-◌, ◌*◌, ◌≤◌}
+use mathlib.Core.Path.{◌≡◌}
 use Rattle.penalty.proofs.balance_of.Given as goal
 
 abbrev pub invariant-loop-k : goal.invariant-loop-k
-invariant-loop-k l = (l.k ≤ 10) × (balance l.dark l.total ≡ least l.k (10 - l.k) (λ l.k. leb l.off ((l.k + 1) * l.total)))
+invariant-loop-k l = (l.k ≤ 10) × (balance l.dark l.total ≡ least l.k (10 - l.k) (λ j. leb l.off ((j + 1) * l.total)))
 
 abbrev pub decreases-loop-k : goal.decreases-loop-k
 decreases-loop-k l = 10 - l.k

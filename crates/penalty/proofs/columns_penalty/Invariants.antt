@@ -1,14 +1,10 @@
 -- `penalty::columns_penalty` meets its contract. The loop adds up the columns passed.
 -- Assumes nothing.
-use Rattle.penalty.specs.Lines.{colours, column_along, in_column}
+use Rattle.penalty.specs.Lines.{colours}
 use Rattle.standard.specs.Penalty.{line_cost, column}
 use Rattle.standard.specs.Numbers.{sum, tabulate}
-use Rattle.laws.specs.Sums.{sum_next, sum_end}
-use Prim.Native.Nat.{ℕ, ◌-◌, ◌*◌, ◌≤◌}
-use mathlib.Core.Path.{◌≡◌, ap, ◌∙◌}
-use native.Mathlib.Omega.{arith}
-use Rattle.std.proofs.Common.{rules}
-use lib.ListN.{length}
+use Prim.Native.Nat.{◌-◌, ◌*◌, ◌≤◌}
+use mathlib.Core.Path.{◌≡◌}
 use Rattle.penalty.proofs.columns_penalty.Given as goal
 
 abbrev pub invariant-loop-x : goal.invariant-loop-x

@@ -1,12 +1,8 @@
 -- `penalty::dark_modules` meets its contract. The loop adds up the colours passed.
 -- Assumes nothing.
 use Rattle.laws.specs.Each.{each}
-use Rattle.standard.specs.Numbers.{sum, tabulate}
 use Rattle.laws.specs.Sums.{sum_next, sum_end}
-use Prim.Native.Nat.{◌-◌, ◌%◌, ◌≤◌}
-use mathlib.Core.Path.{◌≡◌}
 use Rattle.std.proofs.Common.{rules}
-use lib.ListN.{length, get_or}
 use Rattle.penalty.proofs.dark_modules.Goals as goal
 
 pub loop-i-preserved : goal.loop-i-preserved

@@ -1,14 +1,13 @@
 -- `penalty::line_penalty` meets its contract. What is found and what is yet to come is what the line costs.
 -- Assumes nothing.
-use mathlib.Core.Logic.{⊎_elim}
 use Rattle.penalty.specs.HistoryLaws.{second_fits}
-use Rattle.penalty.specs.Lines.{along, along_at, along_lt}
-use Rattle.penalty.specs.Scanned.{Scanned, scan_start, scan_same, scan_other, scan_end, scan_le, line_in_range}
-use Prim.Native.Nat.{◌-◌, ◌≤◌}
+use Rattle.penalty.specs.Lines.{along_at, along_lt}
+use Rattle.penalty.specs.Scanned.{scan_start, scan_same, scan_other, scan_end, scan_le, line_in_range}
 use mathlib.Core.Path.{refl}
 use native.Mathlib.Omega.{arith}
 use Rattle.std.proofs.Common.{rules}
 use Rattle.penalty.proofs.line_penalty.Goals as goal
+use Rattle.penalty.proofs.line_penalty.Goals.{then-color-runcolor, else-color-runcolor}
 
 pub loop-i-init : goal.loop-i-init
 loop-i-init c = search (scan_start, along_lt, rules)
@@ -38,15 +37,22 @@ pub overflow_add-result-else-color-runcolor : goal.overflow_add-result-else-colo
 overflow_add-result-else-color-runcolor c = omega (arith, scan_le _ _ _ _ _ _ _ c.loop-i.invariant.1 (omega arith) (omega arith))
 
 pub loop-i-preserved : goal.loop-i-preserved
-loop-i-preserved c = let a = c.args in
+loop-i-preserved c =
+    let a = c.args in
     let l = c.loop-i in
-    let v = along_at a.grid.now a.start a.step l.i in (
-      omega arith,
-      ⊎_elim
-          (λ w. rw (w.2, w.3, w.4, w.5) (scan_same _ _ _ _ _ _ _ _ _ _ l.invariant.1 (omega arith) v w.0.taken refl w.1.ensures.0))
-          (λ w. rw (w.3, w.4, w.5, w.6) (scan_other _ _ _ _ _ _ _ _ _ _ _ l.invariant.1 (omega arith) v w.0.left w.1.ensures w.2.ensures.0 refl))
-          c.if-color-runcolor.branch,
-    )
+    let v = along_at a.grid.now a.start a.step l.i in
+    elim c.if-color-runcolor.branch [
+      | then-color-runcolor w ↦ (
+        omega arith,
+        rw (w.result-is, w.runcolor-is, w.run-is, w.runhistory-is)
+            (scan_same _ _ _ _ _ _ _ _ _ _ l.invariant.1 (omega arith) v w.if-color-runcolor.true refl w.growth-result.ensures.0),
+      )
+      | else-color-runcolor w ↦ (
+        omega arith,
+        rw (w.result-is, w.runcolor-is, w.run-is, w.runhistory-is)
+            (scan_other _ _ _ _ _ _ _ _ _ _ _ l.invariant.1 (omega arith) v w.if-color-runcolor.false w.push-runhistory.ensures w.light_patterns.ensures.0 refl),
+      )
+    ]
 
 pub terminate_and_count-requires : goal.terminate_and_count-requires
 terminate_and_count-requires c = omega arith

@@ -1,13 +1,8 @@
 -- `penalty::line_penalty` meets its contract. What is found and what is yet to come is what the line costs.
 -- Assumes nothing.
-use mathlib.Core.Logic.{⊎_elim}
-use Rattle.penalty.specs.HistoryLaws.{second_fits}
-use Rattle.penalty.specs.Lines.{along, along_at, along_lt}
-use Rattle.penalty.specs.Scanned.{Scanned, scan_start, scan_same, scan_other, scan_end, scan_le, line_in_range}
+use Rattle.penalty.specs.Lines.{along}
+use Rattle.penalty.specs.Scanned.{Scanned}
 use Prim.Native.Nat.{◌-◌, ◌≤◌}
-use mathlib.Core.Path.{refl}
-use native.Mathlib.Omega.{arith}
-use Rattle.std.proofs.Common.{rules}
 use Rattle.penalty.proofs.line_penalty.Given as goal
 
 abbrev pub invariant-loop-i : goal.invariant-loop-i

@@ -2,10 +2,9 @@
 -- Assumes nothing.
 use Rattle.penalty.specs.Lines.{colours, row_along, in_row}
 use Rattle.standard.specs.Penalty.{line_cost, row}
-use Rattle.standard.specs.Numbers.{sum, tabulate}
 use Rattle.laws.specs.Sums.{sum_next, sum_end}
-use Prim.Native.Nat.{ℕ, ◌-◌, ◌*◌, ◌≤◌}
-use mathlib.Core.Path.{◌≡◌, ap, ◌∙◌}
+use Prim.Native.Nat.{ℕ}
+use mathlib.Core.Path.{ap, ◌∙◌}
 use native.Mathlib.Omega.{arith}
 use Rattle.std.proofs.Common.{rules}
 use lib.ListN.{length}

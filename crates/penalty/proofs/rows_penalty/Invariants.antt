@@ -1,14 +1,10 @@
 -- `penalty::rows_penalty` meets its contract. The loop adds up the rows passed.
 -- Assumes nothing.
-use Rattle.penalty.specs.Lines.{colours, row_along, in_row}
+use Rattle.penalty.specs.Lines.{colours}
 use Rattle.standard.specs.Penalty.{line_cost, row}
 use Rattle.standard.specs.Numbers.{sum, tabulate}
-use Rattle.laws.specs.Sums.{sum_next, sum_end}
-use Prim.Native.Nat.{ℕ, ◌-◌, ◌*◌, ◌≤◌}
-use mathlib.Core.Path.{◌≡◌, ap, ◌∙◌}
-use native.Mathlib.Omega.{arith}
-use Rattle.std.proofs.Common.{rules}
-use lib.ListN.{length}
+use Prim.Native.Nat.{◌-◌, ◌*◌, ◌≤◌}
+use mathlib.Core.Path.{◌≡◌}
 use Rattle.penalty.proofs.rows_penalty.Given as goal
 
 abbrev pub invariant-loop-y : goal.invariant-loop-y

@@ -1,11 +1,6 @@
 -- `penalty::squares::all_squares` meets its contract. The loop adds up the rows passed.
 -- Assumes nothing.
-use Rattle.penalty.specs.Lines.{colours}
-use Rattle.standard.specs.Penalty.{squares}
-use Rattle.standard.specs.Numbers.{sum, tabulate}
 use Rattle.laws.specs.Sums.{sum_next, sum_end}
-use Prim.Native.Nat.{◌-◌, ◌*◌, ◌≤◌}
-use mathlib.Core.Path.{◌≡◌}
 use Rattle.std.proofs.Common.{rules}
 use Rattle.penalty.proofs.squares.all_squares.Goals as goal
 

@@ -3,10 +3,8 @@
 use Rattle.penalty.specs.Lines.{colours}
 use Rattle.standard.specs.Penalty.{squares}
 use Rattle.standard.specs.Numbers.{sum, tabulate}
-use Rattle.laws.specs.Sums.{sum_next, sum_end}
 use Prim.Native.Nat.{◌-◌, ◌*◌, ◌≤◌}
 use mathlib.Core.Path.{◌≡◌}
-use Rattle.std.proofs.Common.{rules}
 use Rattle.penalty.proofs.squares.all_squares.Given as goal
 
 abbrev pub invariant-loop-y : goal.invariant-loop-y

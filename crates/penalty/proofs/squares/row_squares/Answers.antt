@@ -3,13 +3,12 @@
 use Rattle.penalty.specs.Squares.{square_here, two_rows}
 use Rattle.penalty.specs.Lines.{colours}
 use Rattle.standard.specs.Penalty.{square, squares}
-use Rattle.standard.specs.Numbers.{one, sum, tabulate}
+use Rattle.standard.specs.Numbers.{one}
 use Rattle.laws.specs.Sums.{sum_next, sum_end}
-use Prim.Native.Nat.{ℕ, ◌+◌, ◌-◌, ◌*◌, ◌≤◌}
-use mathlib.Core.Path.{◌≡◌, refl}
+use Prim.Native.Nat.{ℕ}
+use mathlib.Core.Path.{refl}
 use native.Mathlib.Omega.{arith}
 use Rattle.std.proofs.Common.{rules}
-use lib.ListN.{length}
 use Rattle.penalty.proofs.squares.row_squares.Goals as goal
 
 pub overflow_mul-top : goal.overflow_mul-top

@@ -1,0 +1,20 @@
+-- `blocks::write_all` meets its contract.
+-- Assumes nothing.
+use Prim.Native.Nat.{ℕ}
+use mathlib.Core.List.{List}
+use mathlib.Core.Path.{ap, ◌∙◌}
+use lib.ListN.{length}
+use Rattle.std.proofs.Common.{rules}
+use Rattle.blocks.specs.Words.{written_in, two_parts}
+use Rattle.blocks.proofs.write_all.Goals as goal
+
+pub returns : goal.returns
+unfolding written_in
+returns c =
+    let a = c.args in
+    let d = c.interleave in
+    let k = c.interleave-2 in
+    let o = a.out.now in
+    two_parts _ _ (length a.«data».now) o d.new.out k.new.out d.ensures k.ensures (search rules)
+    ∙ ap (λ (checks : List ℕ). written_in a.numblocks a.shortdatlen a.numshortblocks a.blockecclen a.«data».now checks o)
+    c.all_checks.ensures

@@ -1,0 +1,15 @@
+-- `read_row` takes two steps of the walk.
+-- Assumes nothing.
+use Rattle.std.proofs.Common.{rules}
+use Rattle.modules.specs.Zigzag.{walk_none, cell_next, walk_end}
+use Rattle.modules.proofs.read.read_row.Goals as goal
+
+pub loop-j-init : goal.loop-j-init
+loop-j-init c = search (walk_none, rules)
+
+pub loop-j-preserved : goal.loop-j-preserved
+loop-j-preserved c =
+    (cell_next _ _ _ _ _ _ _ _ _ _ c.loop-j.invariant.0 c.read_bit-n.ensures c.right_column-x.ensures.0 c.row_of-y.ensures.0 (search rules) (search rules), search rules, search rules)
+
+pub returns : goal.returns
+returns c = search (walk_end, rules)

@@ -1,0 +1,18 @@
+-- `packed::lines::square_count` meets its contract.
+-- Assumes nothing.
+use mathlib.Core.Path.{◌≡◌, ◌∙◌}
+use Prim.Native.Nat.{◌/◌}
+use native.Mathlib.Omega.{arith}
+use lib.Count.{ones}
+use Rattle.packed.specs.Words.{whole}
+use Rattle.packed.specs.Cost.{without}
+use Rattle.packed.specs.Squares.{uneven}
+use Rattle.packed.specs.Whole.{squares_of_lem}
+use Rattle.packed.proofs.lines.square_count.Goals as goal
+
+pub returns : goal.returns
+unfolding uneven
+returns c =
+    let r = c.args in let p = c.requires in
+    let e : c.count.result ≡ ones (without (whole r.m) (uneven (whole r.x / 16) (whole r.y / 16))) = cc in
+    (e ∙ squares_of_lem r.side (whole r.x) (whole r.y) (whole r.m) p.0 p.1 p.2, omega arith)

@@ -1,0 +1,14 @@
+-- `second_x` is the column of the second copy.
+-- Assumes nothing.
+use native.Mathlib.Omega.{arith}
+use borrow.Author.Tests.{lt-ltb, le-ltb}
+use Rattle.patterns.specs.FormatPlaces.{second_x}
+use Rattle.patterns.proofs.format.second_x.Goals as goal
+
+pub returns-then-i-lt8 : goal.returns-then-i-lt8
+unfolding second_x
+returns-then-i-lt8 c = simp (lt-ltb _ _ c.if-i-lt8.true) (omega arith)
+
+pub returns-else-i-lt8 : goal.returns-else-i-lt8
+unfolding second_x
+returns-else-i-lt8 c = simp (le-ltb _ _ c.if-i-lt8.false) (omega arith)

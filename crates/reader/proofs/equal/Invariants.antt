@@ -1,0 +1,15 @@
+-- `equal` compares whole lists.
+-- Assumes nothing.
+use Prim.Native.Nat.{◌-◌, ◌≤◌}
+use mathlib.Core.Path.{◌≡◌}
+use Rattle.std.proofs.Common.{rules}
+use lib.ListN.{length, drop}
+use Rattle.standard.specs.Numbers.{same}
+use Rattle.reader.specs.Early.{same_next, same_off, same_end}
+use Rattle.reader.proofs.equal.Given as goal
+
+abbrev pub invariant-loop-i : goal.invariant-loop-i
+invariant-loop-i l = (same l.a l.b ≡ same (drop l.i l.a) (drop l.i l.b)) × (l.i ≤ length l.a) × (length l.a ≡ length l.b)
+
+abbrev pub decreases-loop-i : goal.decreases-loop-i
+decreases-loop-i l = length l.a - l.i
