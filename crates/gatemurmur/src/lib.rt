@@ -2,6 +2,7 @@
 // function has no enum, so an answer goes out as a struct of numbers. `include/gatemurmur.h` is their header.
 // The two functions with a slice of records are proved by hand.
 #![tactic(auto)]
+
 mod answers; // answers.rt: the encoder's answers as numbers
 mod readings; // readings.rt: the reader's answers as numbers
 

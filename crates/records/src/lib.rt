@@ -1,6 +1,7 @@
 // The entries over lent slices of segment records. The work is done on numbers, four to a record; what is here unpacks and packs.
 // A function with a slice of records is proved by hand, so such functions hold nothing but calls, and one loop each.
 #![tactic(auto)]
+
 ghost use Rattle.std.specs.Prelude.{◌≡◌, ◌+◌, ◌*◌, ◌≤◌, min, length, take};
 ghost use Rattle.standard.specs.Encode.{encode, refused};
 ghost use Rattle.standard.specs.Read.{Reads};
