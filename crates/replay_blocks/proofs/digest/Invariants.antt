@@ -2,7 +2,6 @@
 -- Assumes nothing.
 use Prim.Native.Nat.{◌-◌, ◌≤◌, ◌<◌}
 use lib.ListN.{length}
-use Rattle.std.proofs.Common.{rules}
 use Rattle.replay_blocks.proofs.digest.Given as goal
 
 abbrev pub invariant-loop-i : goal.invariant-loop-i

@@ -1,6 +1,6 @@
 -- `replay_choice::area_of` is safe and ends.
 -- Assumes nothing.
-use Rattle.std.proofs.Common.{arith, rules}
+use Rattle.std.proofs.Common.{arith}
 use Rattle.replay_choice.specs.Fit.{area_fits}
 use Rattle.replay_choice.proofs.area_of.Goals as goal
 

@@ -1,6 +1,6 @@
 -- `replay_choice::fill` is safe and ends.
 -- Assumes nothing.
-use Rattle.std.proofs.Common.{◌≡◌, ◌-◌, ◌<◌, ◌≤◌, length, rules}
+use Rattle.std.proofs.Common.{◌≡◌, ◌-◌, ◌<◌, ◌≤◌, length}
 use Rattle.replay_choice.proofs.fill.Given as goal
 
 abbrev pub invariant-loop-i : goal.invariant-loop-i

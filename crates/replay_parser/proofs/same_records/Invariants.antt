@@ -1,7 +1,6 @@
 -- `replay_parser::same_records` meets its contract.
 -- Assumes nothing.
 use Prim.Native.Nat.{◌-◌, ◌≤◌}
-use Rattle.std.proofs.Common.{rules}
 use Rattle.replay_parser.proofs.same_records.Given as goal
 
 abbrev pub invariant-loop-i : goal.invariant-loop-i

@@ -2,7 +2,6 @@
 -- Assumes nothing.
 use Prim.Native.Nat.{◌-◌, ◌≤◌}
 use mathlib.Core.Path.{◌≡◌}
-use Rattle.std.proofs.Common.{rules}
 use lib.ListN.{length}
 use Rattle.replay_penalty.proofs.mark.Given as goal
 

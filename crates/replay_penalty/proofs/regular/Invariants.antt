@@ -1,10 +1,7 @@
 -- `replay_penalty::regular` meets its contract. Columns and rows are below the side.
 -- Assumes nothing.
-use native.Mathlib.Nat.{mod-lt, div-lt_iff_lt-mul}
-use Prim.Native.Nat.{◌-◌, ◌*◌, ◌≤◌, ◌<◌}
+use Prim.Native.Nat.{◌-◌, ◌*◌, ◌≤◌}
 use mathlib.Core.Path.{◌≡◌}
-use native.Mathlib.Omega.{arith}
-use Rattle.std.proofs.Common.{rules}
 use lib.ListN.{length}
 use Rattle.replay_penalty.proofs.regular.Given as goal
 

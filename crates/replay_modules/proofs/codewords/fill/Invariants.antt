@@ -1,6 +1,6 @@
 -- `replay_modules::codewords::fill` is safe and ends.
 -- Assumes nothing.
-use Rattle.std.proofs.Common.{◌≡◌, ◌-◌, ◌<◌, ◌≤◌, length, rules}
+use Rattle.std.proofs.Common.{◌≡◌, ◌-◌, ◌<◌, ◌≤◌, length}
 use Rattle.replay_modules.proofs.codewords.fill.Given as goal
 
 abbrev pub invariant-loop-i : goal.invariant-loop-i

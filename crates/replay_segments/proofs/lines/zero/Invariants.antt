@@ -1,8 +1,6 @@
 -- `replay_segments::lines::zero` meets its contract: the bytes passed so far are zero.
 -- Assumes nothing.
-use Rattle.std.proofs.Common.{◌≡◌, ◌-◌, ◌≤◌, ◌++◌, length, drop, set, replicate, ap, ◌∙◌, arith, length-set, rules}
-use borrow.Author.Fill.{fill_more}
-use Rattle.replay_segments.specs.Facts.{zeros_end}
+use Rattle.std.proofs.Common.{◌≡◌, ◌-◌, ◌≤◌, ◌++◌, length, drop, replicate}
 use Rattle.replay_segments.proofs.lines.zero.Given as goal
 
 abbrev pub invariant-loop-i : goal.invariant-loop-i
