@@ -1,5 +1,6 @@
 // Bits in a lent buffer of bytes, the highest bit of the first byte first.
 #![tactic(auto)]
+
 ghost use Rattle.std.specs.Prelude.{◌≡◌, ◌+◌, ◌-◌, ◌*◌, ◌%◌, ◌^◌, ◌≤◌, ◌<◌, min, length, get_or};
 ghost use Rattle.standard.specs.Bits.{bits, unpack};
 ghost use Rattle.bits.specs.Fields.{field};

@@ -1,6 +1,7 @@
 // Check bytes of each block, all codewords from the data codewords, and the data codewords back out of all codewords.
 // The data codewords stand block by block: the first `numshortblocks` of `numblocks` blocks have `shortdatlen` bytes, the others one more.
 #![tactic(auto)]
+
 mod interleave; // interleave.rt: the bytes of blocks in turn, and the way back
 
 ghost use Rattle.std.specs.Prelude.{◌≡◌, ◌++◌, ◌+◌, ◌-◌, ◌*◌, ◌<◌, ◌≤◌, length, take, drop};

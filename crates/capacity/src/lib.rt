@@ -1,5 +1,6 @@
 // How much a version holds: the two tables, raw modules, data codewords and the places of alignment patterns.
 #![tactic(auto)]
+
 ghost use Rattle.std.specs.Prelude.{◌≡◌, ◌++◌, ◌+◌, ◌-◌, ◌≤◌, length, replicate};
 ghost use Rattle.standard.specs.Sizes.{raw_modules, check_bytes, blocks, data_codewords};
 ghost use Rattle.standard.specs.Patterns.{alignment_step, alignment};

@@ -1,5 +1,6 @@
 // The encoder: planning, drawing and the public entries. No entry asks anything of its caller: every input gets a label or one refusal.
 #![tactic(auto)]
+
 ghost use Rattle.std.specs.Prelude.{◌≡◌, ◌≤◌};
 ghost use Rattle.standard.specs.Encode.{encode, encode_text, encode_bytes, encode_codewords};
 ghost use Rattle.segments.specs.Records.{parts_of};

@@ -1,5 +1,6 @@
 // The field of 256 elements, bytes modulo 11D (hex), and Reed-Solomon check bytes over it.
 #![tactic(auto)]
+
 ghost use Rattle.std.specs.Prelude.{◌≡◌, ◌+◌, ◌*◌, ◌<◌, ◌≤◌, length, get_or, take, drop};
 ghost use Rattle.standard.specs.Field.{double as double_of, times, scale, remainder, divisor as divisor_of};
 ghost use Rattle.field.specs.Generator.{times_root};

@@ -1,9 +1,11 @@
 // Draws the label of a text in the terminal, or reads a label back. `label --help` says how it is called.
 // Here is the command line; what reads or writes besides is in draw, read and show.
 #![tactic(auto)]
+
 ghost use Rattle.std.specs.Prelude.{◌+◌, ◌<◌, ◌^◌};
 
 use out::say;
+use std::env::{Env, FillError};
 use terminal::options::Options;
 use terminal::{options, text, words};
 
@@ -15,62 +17,94 @@ mod refusals; // the words of refusals
 mod show; // what a label that was read holds
 
 // Writes a word of the command line, escaped.
-fn word(w: &[u8]) {
+fn word(rt: &impl Print, w: &[u8]) {
     let mut out = [0u8; 64];
     if w.len() <= 16 {
         let n = text::escape(&mut out, 0, w);
-        say(&out[0..n]);
+        say(rt, &out[0..n]);
     }
 }
 
 // Says which words are no option.
-fn told(what: &[u8], name: &[u8], value: &[u8]) {
-    say(what);
-    word(name);
-    say(b" ");
-    word(value);
-    say(b"\n\n");
+fn told(rt: &impl Print, what: &[u8], name: &[u8], value: &[u8]) {
+    say(rt, what);
+    word(rt, name);
+    say(rt, b" ");
+    word(rt, value);
+    say(rt, b"\n\n");
 }
 
-// The options after the option of a name, whose value is word i.
-fn option_one(o: Options, i: usize, name: &[u8]) -> Options {
-    let mut value = [0u8; 16];
-    let n = os::arg(i, &mut value);
-    let error = os::errno();
-    if error == libc::EINVAL {
-        told(b"label: not understood, or without its value: ", name, b"");
-        return options::wrong(o);
-    }
-    if error != 0 {
-        told(b"label: not understood: the value of ", name, b"");
-        return options::wrong(o);
-    }
-    let next = options::chosen(o, name, &value[..n]);
+// The options after the option of a name and its value.
+fn option_value(rt: &impl Print, o: Options, name: &[u8], value: &[u8]) -> Options {
+    let next = options::chosen(o, name, value);
     if next.wrong {
-        told(b"label: not understood: ", name, &value[..n]);
+        told(rt, b"label: not understood: ", name, value);
     }
     next
 }
 
+// The options after the option of a name, whose value is word i.
+fn option_one(rt: &(impl Env + Print), o: Options, i: usize, name: &[u8]) -> Options {
+    let mut value = [0u8; 16];
+    match rt.arg(i, &mut value) {
+        Err(FillError::NotPresent) => {
+            told(
+                rt,
+                b"label: not understood, or without its value: ",
+                name,
+                b"",
+            );
+            options::wrong(o)
+        }
+        Err(FillError::TooLong) => {
+            told(rt, b"label: not understood: the value of ", name, b"");
+            options::wrong(o)
+        }
+        Ok(n) => option_value(rt, o, name, &value[..n]),
+    }
+}
+
+// The options after the option of a name, which is word i.
+fn option_named(rt: &(impl Env + Print), o: Options, i: usize, name: &[u8]) -> Options
+    requires { i + 1 < 2 ^ 64 }
+{
+    if words::same(name, b"--help") {
+        return options::helped(o);
+    }
+    option_one(rt, o, i + 1, name)
+}
+
 // The options after the words i and i + 1.
-fn option_pair(o: Options, i: usize) -> Options
+fn option_pair(rt: &(impl Env + Print), o: Options, i: usize) -> Options
     requires { i + 1 < 2 ^ 64 }
 {
     let mut name = [0u8; 16];
-    let n = os::arg(i, &mut name);
-    if os::errno() != 0 {
-        say(b"label: not understood: a word of more than 16 letters\n\n");
-        return options::wrong(o);
+    match rt.arg(i, &mut name) {
+        Err(_) => {
+            say(
+                rt,
+                b"label: not understood: a word of more than 16 letters\n\n",
+            );
+            options::wrong(o)
+        }
+        Ok(n) => option_named(rt, o, i, &name[..n]),
     }
-    if words::same(&name[..n], b"--help") {
-        return options::helped(o);
+}
+
+// How many words the command line has, the program's own name among them.
+fn word_count(rt: &impl Env) -> usize {
+    for i in 0..usize::MAX {
+        let mut none = [0u8; 0];
+        if let Err(FillError::NotPresent) = rt.arg(i, &mut none) {
+            return i;
+        }
     }
-    option_one(o, i + 1, &name[..n])
+    usize::MAX
 }
 
 // Reads the options, up to the first that is none.
-fn option_words() -> Options {
-    let pairs = os::arg_count() / 2;
+fn option_words(rt: &(impl Env + Print)) -> Options {
+    let pairs = word_count(rt) / 2;
     let mut o = options::defaults();
     let mut k: usize = 0;
     while k < pairs {
@@ -80,38 +114,37 @@ fn option_words() -> Options {
         if o.wrong {
             return o;
         }
-        o = option_pair(o, 2 * k + 1);
+        o = option_pair(rt, o, 2 * k + 1);
         k += 1;
     }
     o
 }
 
 // Whether the command line is the one word `read`.
-fn asked_to_read() -> bool {
+fn asked_to_read(rt: &impl Env) -> bool {
     let mut name = [0u8; 16];
-    if os::arg_count() != 2 {
+    if word_count(rt) != 2 {
         return false;
     }
-    let n = os::arg(1, &mut name);
-    if os::errno() != 0 {
-        return false;
+    match rt.arg(1, &mut name) {
+        Err(_) => false,
+        Ok(n) => words::same(&name[..n], b"read"),
     }
-    words::same(&name[..n], b"read")
 }
 
-fn main() {
-    if asked_to_read() {
-        read::read_label();
+fn main(rt: HostRuntime) {
+    if asked_to_read(&rt) {
+        read::read_label(&rt);
         return;
     }
-    let o = option_words();
+    let o = option_words(&rt);
     if o.wrong {
-        help::usage();
+        help::usage(&rt);
         return;
     }
     if o.help {
-        help::help();
+        help::help(&rt);
         return;
     }
-    draw::read_text(o);
+    draw::read_text(&rt, o);
 }

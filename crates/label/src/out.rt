@@ -1,11 +1,11 @@
 // Writes to standard output.
 
 // Writes words.
-pub(crate) fn say(words: &[u8]) {
-    io::write_all(1, words);
+pub(crate) fn say(rt: &impl Print, words: &[u8]) {
+    streams::say(rt, words);
 }
 
 // Writes a number.
-pub(crate) fn number(n: usize) {
-    io::print_decimal(1, n as u64);
+pub(crate) fn number(rt: &impl Print, n: usize) {
+    streams::number(rt, n as u64);
 }

@@ -4,11 +4,15 @@ ghost use Rattle.terminal.specs.Scan.{side_of, Begins};
 
 use super::out::{number, say};
 use super::show::read_grid;
+use streams::read_full;
 use terminal::{picture, scan, words};
 
 // Says that a picture is none of a label.
-fn no_picture() {
-    say(b"label: this begins like a picture, and label draws no such picture\n");
+fn no_picture(rt: &impl Print) {
+    say(
+        rt,
+        b"label: this begins like a picture, and label draws no such picture\n",
+    );
 }
 
 // Reads the picture of a grid at the start of a text, and returns the place after it; 0 where there is no picture. It is one if
@@ -28,50 +32,50 @@ fn picture_end(text: &[u8], side: usize, grid: &mut [u8], work: &mut [u8]) -> us
 }
 
 // Reads the label of a picture of a side.
-fn read_sided(text: &[u8], side: usize, grid: &mut [u8], work: &mut [u8])
+fn read_sided(rt: &impl Print, text: &[u8], side: usize, grid: &mut [u8], work: &mut [u8])
     requires side_value { (side ≡ side_of text.now) × (0 < side) × (side ≤ 177) × (length grid.old ≡ side * side) }
     requires text_len_bound { (length text.now ≤ 65536) × (length work.old ≡ 65536) }
 {
     let end = picture_end(text, side, grid, work);
     if end == 0 {
-        no_picture();
+        no_picture(rt);
         return;
     }
-    read_grid(grid, side, &text[end..]);
+    read_grid(rt, grid, side, &text[end..]);
 }
 
 // Reads the label of a picture.
-fn read_picture(text: &[u8], grid: &mut [u8], work: &mut [u8])
+fn read_picture(rt: &impl Print, text: &[u8], grid: &mut [u8], work: &mut [u8])
     requires { (length text.now ≤ 65536) × (length grid.old ≡ 65536) × (length work.old ≡ 65536) }
 {
     let side = scan::side_of(text);
     if side == 0 {
-        no_picture();
+        no_picture(rt);
         return;
     }
     if 177 < side {
-        no_picture();
+        no_picture(rt);
         return;
     }
     let area = side * side;
-    read_sided(text, side, &mut grid[0..area], work);
+    read_sided(rt, text, side, &mut grid[0..area], work);
 }
 
 // Reads the label of the modules of rows.
-fn read_modules(text: &[u8], side: usize, grid: &mut [u8])
+fn read_modules(rt: &impl Print, text: &[u8], side: usize, grid: &mut [u8])
     requires { (0 < side) × (length grid.old ≤ 65536) }
 {
     scan::rows(side, text, grid);
-    read_grid(grid, side, b"");
+    read_grid(rt, grid, side, b"");
 }
 
 // Reads the label of rows of a side, as many as there are.
-fn read_even(text: &[u8], side: usize, grid: &mut [u8])
+fn read_even(rt: &impl Print, text: &[u8], side: usize, grid: &mut [u8])
     requires { (0 < side) × (side ≤ 65536) × (length text.now ≤ 65536) × (length grid.old ≡ 65536) }
 {
     let lines = (text.len() + 1) / (side + 1);
     let area = lines * side;
-    read_modules(text, side, &mut grid[0..area]);
+    read_modules(rt, text, side, &mut grid[0..area]);
 }
 
 // The line, counted from 1, in which a place lies that comes after lines of a side.
@@ -82,67 +86,67 @@ fn line_of(p: usize, side: usize) -> usize
 }
 
 // Says that the line of a place has not the length of the first one.
-fn uneven_line(p: usize, side: usize)
+fn uneven_line(rt: &impl Print, p: usize, side: usize)
     requires { (p ≤ 65536) × (side ≤ 65536) }
 {
-    say(b"label: line ");
-    number(line_of(p, side));
-    say(b" has not as many characters as line 1\n");
+    say(rt, b"label: line ");
+    number(rt, line_of(p, side));
+    say(rt, b" has not as many characters as line 1\n");
 }
 
 // Reads the label of lines, without the newline after the last one.
-fn read_lines(text: &[u8], grid: &mut [u8])
+fn read_lines(rt: &impl Print, text: &[u8], grid: &mut [u8])
     requires { (length text.now ≤ 65536) × (length grid.old ≡ 65536) }
 {
     let side = words::place(10, text);
     if side == 0 {
-        say(b"label: line 1 is empty\n");
+        say(rt, b"label: line 1 is empty\n");
         return;
     }
     let p = scan::uneven(side, text);
     if p < text.len() {
-        uneven_line(p, side);
+        uneven_line(rt, p, side);
         return;
     }
     if (p + 1) % (side + 1) != 0 {
-        uneven_line(p, side);
+        uneven_line(rt, p, side);
         return;
     }
-    read_even(text, side, grid);
+    read_even(rt, text, side, grid);
 }
 
 // Reads the label of rows of 0 and 1.
-fn read_rows(text: &[u8], grid: &mut [u8])
+fn read_rows(rt: &impl Print, text: &[u8], grid: &mut [u8])
     requires { (length text.now ≤ 65536) × (length grid.old ≡ 65536) }
 {
     let n = words::line_length(text);
-    read_lines(&text[0..n], grid);
+    read_lines(rt, &text[0..n], grid);
 }
 
 // Reads what standard input holds: a picture, which begins with a colour code, or rows.
-fn read_input(text: &[u8], grid: &mut [u8], work: &mut [u8])
+fn read_input(rt: &impl Print, text: &[u8], grid: &mut [u8], work: &mut [u8])
     requires { (length text.now ≤ 65536) × (length grid.old ≡ 65536) × (length work.old ≡ 65536) }
 {
     if text.len() == 0 {
-        say(b"label: there is nothing to read\n");
+        say(rt, b"label: there is nothing to read\n");
         return;
     }
     if text[0] == 27 {
-        read_picture(text, grid, work);
+        read_picture(rt, text, grid, work);
         return;
     }
-    read_rows(text, grid);
+    read_rows(rt, text, grid);
 }
 
 // Reads a label from standard input. No picture and no rows of a label take as many bytes as there is room for.
-pub(crate) fn read_label() {
-    let mut text = io::large_buffer();
-    let mut grid = io::large_buffer();
-    let mut work = io::large_buffer();
-    let n = io::read_full(0, &mut text);
+pub(crate) fn read_label(rt: &(impl Input + Print)) {
+    let mut text = [0u8; 65536];
+    let mut grid = [0u8; 65536];
+    let mut work = [0u8; 65536];
+    let n = read_full(&mut rt.reader(), &mut text);
     if n == 65536 {
-        say(b"label: this is longer than a label\n");
+        say(rt, b"label: this is longer than a label\n");
         return;
     }
-    read_input(&text[..n], &mut grid, &mut work);
+    read_input(rt, &text[..n], &mut grid, &mut work);
 }

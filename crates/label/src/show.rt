@@ -13,57 +13,57 @@ use terminal::words::same;
 /*---- Segments ----*/
 
 // Says the name of a kind of characters.
-fn kind_name(kind: u64) {
+fn kind_name(rt: &impl Print, kind: u64) {
     if kind == 0 {
-        say(b"numeric");
+        say(rt, b"numeric");
     }
     if kind == 1 {
-        say(b"alphanumeric");
+        say(rt, b"alphanumeric");
     }
     if kind == 2 {
-        say(b"byte");
+        say(rt, b"byte");
     }
 }
 
 // Says kind, length and characters of a segment.
-fn tell_characters(kind: u64, characters: &[u8])
+fn tell_characters(rt: &impl Print, kind: u64, characters: &[u8])
     requires { length characters.now ≤ 7089 }
 {
     let mut out = [0u8; 28356];
     let n = text::escape(&mut out, 0, characters);
-    kind_name(kind);
-    say(b", length ");
-    number(characters.len());
-    say(b": ");
-    say(&out[0..n]);
-    say(b"\n");
+    kind_name(rt, kind);
+    say(rt, b", length ");
+    number(rt, characters.len());
+    say(rt, b": ");
+    say(rt, &out[0..n]);
+    say(rt, b"\n");
 }
 
 // Says segment i, counted from 0.
-fn tell_segment(i: usize, r: Record, text: &[u8])
+fn tell_segment(rt: &impl Print, i: usize, r: Record, text: &[u8])
     requires { (i + 1 < 2 ^ 64) × (r.start + r.length ≤ length text.now) × (length text.now ≤ 7089) }
 {
-    say(b"segment ");
-    number(i + 1);
-    say(b": ");
+    say(rt, b"segment ");
+    number(rt, i + 1);
+    say(rt, b": ");
     if r.kind == 3 {
-        say(b"ECI ");
-        io::print_decimal(1, r.assign);
-        say(b"\n");
+        say(rt, b"ECI ");
+        streams::number(rt, r.assign);
+        say(rt, b"\n");
         return;
     }
     let start = r.start as usize;
     let end = start + r.length as usize;
-    tell_characters(r.kind, &text[start..end]);
+    tell_characters(rt, r.kind, &text[start..end]);
 }
 
 // Says the first n segments.
-fn tell_segments(n: usize, records: &[Record], text: &[u8])
+fn tell_segments(rt: &impl Print, n: usize, records: &[Record], text: &[u8])
     requires { (n ≤ length records.now) × Within n records.now (length text.now) × (length text.now ≤ 7089) }
 {
     let mut i: usize = 0;
     while i < n {
-        tell_segment(i, records[i], text);
+        tell_segment(rt, i, records[i], text);
         i += 1;
     }
 }
@@ -71,27 +71,27 @@ fn tell_segments(n: usize, records: &[Record], text: &[u8])
 /*---- The label ----*/
 
 // Says which label was read, and returns whether it is the right one. What stands under a picture has to be the line that goes with it.
-fn tell_label(version: u8, level: usize, mask: u8, under: &[u8]) -> bool {
+fn tell_label(rt: &impl Print, version: u8, level: usize, mask: u8, under: &[u8]) -> bool {
     let mut out = [0u8; 40];
     let n = text::caption(&mut out, 0, version, level, mask);
     if under.len() != 0 {
         if !same(under, &out[0..n]) {
-            say(b"label: the line under the picture should be: ");
-            say(&out[0..n]);
+            say(rt, b"label: the line under the picture should be: ");
+            say(rt, &out[0..n]);
             return false;
         }
     }
-    say(&out[0..n]);
+    say(rt, &out[0..n]);
     true
 }
 
 // Says which label was read or why there is none, and returns how many segments are to be said.
-fn tell(outcome: reader::Outcome, under: &[u8]) -> usize
+fn tell(rt: &impl Print, outcome: reader::Outcome, under: &[u8]) -> usize
     ensures { result ≤ count outcome }
 {
     match outcome {
         reader::Outcome::Refused(r) => {
-            unread(r);
+            unread(rt, r);
             0
         }
         reader::Outcome::Label {
@@ -101,11 +101,11 @@ fn tell(outcome: reader::Outcome, under: &[u8]) -> usize
             records,
             text,
         } => {
-            if !tell_label(version.value(), level.ordinal(), mask.value(), under) {
+            if !tell_label(rt, version.value(), level.ordinal(), mask.value(), under) {
                 return 0;
             }
             if records == 0 {
-                say(b"no segments\n");
+                say(rt, b"no segments\n");
             }
             records
         }
@@ -113,7 +113,7 @@ fn tell(outcome: reader::Outcome, under: &[u8]) -> usize
 }
 
 // Reads the label that a grid shows, and says what it holds or why it is none.
-pub(crate) fn read_grid(grid: &[u8], side: usize, under: &[u8]) {
+pub(crate) fn read_grid(rt: &impl Print, grid: &[u8], side: usize, under: &[u8]) {
     let none = Record {
         kind: 0,
         start: 0,
@@ -124,5 +124,5 @@ pub(crate) fn read_grid(grid: &[u8], side: usize, under: &[u8]) {
     let mut records = [none; 2048];
     let mut scratch = [0u8; 40000];
     let outcome = records::read(grid, side, &mut text, &mut records, &mut scratch);
-    tell_segments(tell(outcome, under), &records, &text);
+    tell_segments(rt, tell(rt, outcome, under), &records, &text);
 }

@@ -1,5 +1,6 @@
 // What a line of a fixed list of answers shows: modules, bytes in hexadecimal digits, and digests. The programs replay_* compare with it.
 #![tactic(auto)]
+
 ghost use Rattle.std.specs.Prelude.{◌≡◌, ◌&&◌, ◌/◌, ◌%◌, ◌<◌, eqb};
 ghost use Rattle.standard.specs.Numbers.{same};
 ghost use Rattle.listing.specs.Shown.{modules_of, hex_digit, hex_of, digest_of, four_of};

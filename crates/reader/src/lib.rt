@@ -1,5 +1,6 @@
 // The strict reader: what label a grid shows. Function modules and all codewords are compared with what the label draws.
 #![tactic(auto)]
+
 mod check; // check.rt: the first checks
 
 ghost use Rattle.std.specs.Prelude.{◌≡◌, ◌&&◌, [], ◌∷◌, ◌++◌, ◌+◌, ◌*◌, ◌≤◌, length, take, replicate};

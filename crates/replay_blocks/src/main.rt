@@ -1,10 +1,13 @@
 // Compares all codewords with a fixed list of the original's answers on standard input, one case a line. How the list was made, and what
 // a line says, stands in tools/vectors/blocks.rs. The data codewords are also taken out of all codewords again.
 #![tactic(auto)]
+
 ghost use Rattle.std.specs.Prelude.{◌≡◌, ◌<◌, ◌≤◌, length};
 ghost use Rattle.standard.specs.Sizes.{raw_codewords, data_codewords};
 ghost use Rattle.types.specs.Numbers.{IsVersion, level_of};
 
+use std::io::Read;
+use streams::read_full;
 use types::{NewVersion, QrCodeEcc, Version};
 
 // How many cases were compared in full and by digests, how many of them differ, and how many
@@ -18,23 +21,23 @@ struct Tally {
     more: bool,
 }
 
-fn main() {
-    let t = replay();
-    told(b"compared in full: ", t.full);
-    told(b"compared by digests: ", t.digests);
-    told(b"different: ", t.differ);
-    told(b"data not found again: ", t.lost);
+fn main(rt: HostRuntime) {
+    let t = replay(&mut rt.reader());
+    told(&rt, b"compared in full: ", t.full);
+    told(&rt, b"compared by digests: ", t.digests);
+    told(&rt, b"different: ", t.differ);
+    told(&rt, b"data not found again: ", t.lost);
 }
 
 // Writes a line.
-fn told(words: &[u8], n: u64) {
-    io::write_all(1, words);
-    io::print_decimal(1, n);
-    io::write_all(1, b"\n");
+fn told(rt: &impl Print, words: &[u8], n: u64) {
+    streams::say(rt, words);
+    streams::number(rt, n);
+    streams::say(rt, b"\n");
 }
 
 // All lines.
-fn replay() -> Tally {
+fn replay(input: &mut impl Read) -> Tally {
     let mut t = Tally {
         full: 0,
         digests: 0,
@@ -44,7 +47,7 @@ fn replay() -> Tally {
     };
     let mut turns: u64 = 1000;
     while 0 < turns {
-        t = line(t);
+        t = line(input, t);
         if t.more {
             turns -= 1;
         } else {
@@ -55,15 +58,15 @@ fn replay() -> Tally {
 }
 
 // One line. A version that is none ends the list.
-fn line(t: Tally) -> Tally {
+fn line(input: &mut impl Read, t: Tally) -> Tally {
     let mut head = [0u8; 7];
-    let got = io::read_full(0, &mut head);
+    let got = read_full(input, &mut head);
     if got < 7 {
         return ended(t);
     }
     let n = Version::new(digit(head[2]) * 10 + digit(head[3]));
     match n {
-        NewVersion::Some(ver) => case(t, head[0], ver, level(head[5])),
+        NewVersion::Some(ver) => case(input, t, head[0], ver, level(head[5])),
         NewVersion::None => ended(t),
     }
 }
@@ -97,7 +100,7 @@ fn level(c: u8) -> QrCodeEcc {
 }
 
 // One case, in buffers of the size that the largest version needs.
-fn case(t: Tally, kind: u8, ver: Version, ecl: QrCodeEcc) -> Tally
+fn case(input: &mut impl Read, t: Tally, kind: u8, ver: Version, ecl: QrCodeEcc) -> Tally
     requires { IsVersion ver }
 {
     let n = capacity::get_num_data_codewords(ver, ecl);
@@ -106,6 +109,7 @@ fn case(t: Tally, kind: u8, ver: Version, ecl: QrCodeEcc) -> Tally
     let mut all: [u8; 3706] = [0; 3706];
     let mut back: [u8; 2956] = [0; 2956];
     compared(
+        input,
         t,
         kind,
         ver,
@@ -118,6 +122,7 @@ fn case(t: Tally, kind: u8, ver: Version, ecl: QrCodeEcc) -> Tally
 
 // Makes all codewords, and the data codewords from them, and compares both.
 fn compared(
+    input: &mut impl Read,
     t: Tally,
     kind: u8,
     ver: Version,
@@ -132,11 +137,11 @@ fn compared(
     fill(data, seed(ver.value(), ecl.ordinal()));
     blocks::add_ecc_and_interleave(ver, ecl, data, all);
     blocks::data_words(ver, ecl, all, back);
-    let found = check::same(data, back);
+    let found = *data == *back;
     if kind == b'F' {
-        return in_full(t, equal(all), found);
+        return in_full(t, equal(input, all), found);
     }
-    by_digests(t, digests(all, data.len()), found)
+    by_digests(t, digests(input, all, data.len()), found)
 }
 
 // A case that was compared in full.
@@ -194,25 +199,25 @@ fn fill(data: &mut [u8], seed: u64)
 }
 
 // Whether the rest of the line has these bytes.
-fn equal(bytes: &[u8]) -> bool {
+fn equal(input: &mut impl Read, bytes: &[u8]) -> bool {
     let mut good = true;
     let mut i = 0;
     while i < bytes.len() {
-        if !next_is(bytes[i]) {
+        if !next_is(input, bytes[i]) {
             good = false;
         }
         i += 1;
     }
-    end_of_line(good)
+    end_of_line(input, good)
 }
 
 // Whether the rest of the line has the digests of the first n bytes and of the others.
-fn digests(bytes: &[u8], n: usize) -> bool
+fn digests(input: &mut impl Read, bytes: &[u8], n: usize) -> bool
     requires { n ≤ length bytes.now }
 {
-    let first = number_is(digest(&bytes[0..n]));
-    let second = number_is(digest(&bytes[n..]));
-    end_of_line(first && second)
+    let first = number_is(input, digest(&bytes[0..n]));
+    let second = number_is(input, digest(&bytes[n..]));
+    end_of_line(input, first && second)
 }
 
 // A digest of bytes: each counts by its place.
@@ -229,18 +234,18 @@ fn digest(bytes: &[u8]) -> u64
 }
 
 // Whether the next eight characters are a number's digits.
-fn number_is(n: u64) -> bool {
-    let a = next_is((n / 16777216 % 256) as u8);
-    let b = next_is((n / 65536 % 256) as u8);
-    let c = next_is((n / 256 % 256) as u8);
-    let d = next_is((n % 256) as u8);
+fn number_is(input: &mut impl Read, n: u64) -> bool {
+    let a = next_is(input, (n / 16777216 % 256) as u8);
+    let b = next_is(input, (n / 65536 % 256) as u8);
+    let c = next_is(input, (n / 256 % 256) as u8);
+    let d = next_is(input, (n % 256) as u8);
     a && b && c && d
 }
 
 // Whether the next two characters are a byte's digits.
-fn next_is(b: u8) -> bool {
+fn next_is(input: &mut impl Read, b: u8) -> bool {
     let mut two = [0u8; 2];
-    let got = io::read_full(0, &mut two);
+    let _ = read_full(input, &mut two);
     two[0] == hex(b / 16) && two[1] == hex(b % 16)
 }
 
@@ -252,9 +257,9 @@ fn hex(n: u8) -> u8
 }
 
 // Whether all was well, and the line ends here.
-fn end_of_line(well: bool) -> bool {
+fn end_of_line(input: &mut impl Read, well: bool) -> bool {
     let mut one = [0u8; 1];
-    let got = io::read_full(0, &mut one);
+    let _ = read_full(input, &mut one);
     well && one[0] == b'\n'
 }
 

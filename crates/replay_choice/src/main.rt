@@ -1,9 +1,12 @@
 // Compares masks that are chosen automatically, and the grids drawn with them, with a fixed list of the original's answers on standard
 // input, one case a line. How the list was made, and what a line says, stands in tools/vectors/choice.rs.
 #![tactic(auto)]
+
 ghost use Rattle.std.specs.Prelude.{◌<◌, ◌≤◌, length};
 
 use encoder::Outcome;
+use std::io::Read;
+use streams::read_full;
 use types::Mask;
 
 // How many grids were compared in full and by digests, and how many masks and grids differ.
@@ -29,23 +32,23 @@ struct Same {
     grid: bool,
 }
 
-fn main() {
-    let t = replay();
-    told(b"compared in full: ", t.full);
-    told(b"compared by digests: ", t.digests);
-    told(b"other masks: ", t.masks);
-    told(b"other grids: ", t.grids);
+fn main(rt: HostRuntime) {
+    let t = replay(&mut rt.reader());
+    told(&rt, b"compared in full: ", t.full);
+    told(&rt, b"compared by digests: ", t.digests);
+    told(&rt, b"other masks: ", t.masks);
+    told(&rt, b"other grids: ", t.grids);
 }
 
 // Writes a line.
-fn told(words: &[u8], n: u64) {
-    io::write_all(1, words);
-    io::print_decimal(1, n);
-    io::write_all(1, b"\n");
+fn told(rt: &impl Print, words: &[u8], n: u64) {
+    streams::say(rt, words);
+    streams::number(rt, n);
+    streams::say(rt, b"\n");
 }
 
 // All lines.
-fn replay() -> Tally {
+fn replay(input: &mut impl Read) -> Tally {
     let mut t = Tally {
         full: 0,
         digests: 0,
@@ -55,7 +58,7 @@ fn replay() -> Tally {
     let mut turns: u64 = 100_000;
     let mut line = [0u8; 4096];
     while 0 < turns {
-        let l = read_line(&mut line);
+        let l = read_line(input, &mut line);
         match l {
             Line::Read(n) => {
                 t = counted(t, line[0], case(line, n));
@@ -70,10 +73,10 @@ fn replay() -> Tally {
 }
 
 // Reads a line without its end. A line that is too long is read as several.
-fn read_line(line: &mut [u8; 4096]) -> Line {
+fn read_line(input: &mut impl Read, line: &mut [u8; 4096]) -> Line {
     let mut n: usize = 0;
     while n < 4096 {
-        let c = next();
+        let c = next(input);
         if c == 0 {
             return Line::End;
         }
@@ -87,9 +90,9 @@ fn read_line(line: &mut [u8; 4096]) -> Line {
 }
 
 // The next character; 0 at the end of the input.
-fn next() -> u8 {
+fn next(input: &mut impl Read) -> u8 {
     let mut one = [0u8; 1];
-    let got = io::read_full(0, &mut one);
+    let _ = read_full(input, &mut one);
     one[0]
 }
 
@@ -107,7 +110,7 @@ fn counted(t: Tally, kind: u8, c: Same) -> Tally {
 // One more, if it counts.
 fn one_more(n: u64, counts: bool) -> u64 {
     if counts {
-        return std::num::wrapping_add_u64(n, 1);
+        return n.wrapping_add(1);
     }
     n
 }
@@ -230,7 +233,7 @@ fn compared(line: &[u8], v: u8, l: u8, data: &[u8]) -> Same
             mask: mask_is(line[16], mask),
             grid: grid_is(line, &grid, v),
         },
-        Outcome::Refused(e) => Same {
+        Outcome::Refused(_) => Same {
             mask: false,
             grid: false,
         },

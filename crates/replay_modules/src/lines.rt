@@ -1,6 +1,8 @@
 // The lines of the list, and what their characters mean.
 ghost use Rattle.std.specs.Prelude.{◌≤◌};
 
+use std::io::Read;
+use streams::read_full;
 use types::QrCodeEcc;
 
 // What reading a line gives: its length, or that the input is at its end.
@@ -11,10 +13,10 @@ pub(crate) enum Line {
 }
 
 // Reads a line without its end. A line that is too long is read as several.
-pub(crate) fn read_line(line: &mut [u8; 32768]) -> Line {
+pub(crate) fn read_line(input: &mut impl Read, line: &mut [u8; 32768]) -> Line {
     let mut n: usize = 0;
     while n < 32768 {
-        let c = next();
+        let c = next(input);
         if c == 0 {
             return Line::End;
         }
@@ -28,9 +30,9 @@ pub(crate) fn read_line(line: &mut [u8; 32768]) -> Line {
 }
 
 // The next character; 0 at the end of the input.
-fn next() -> u8 {
+fn next(input: &mut impl Read) -> u8 {
     let mut one = [0u8; 1];
-    let got = io::read_full(0, &mut one);
+    let _ = read_full(input, &mut one);
     one[0]
 }
 

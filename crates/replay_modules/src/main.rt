@@ -1,6 +1,7 @@
 // Compares whole grids with a fixed list of the original's answers on standard input, one case a line. How the list was made, and what
 // a line says, stands in tools/vectors/modules.rs. Level, mask and codewords are also read back, and some modules are asked for.
 #![tactic(auto)]
+
 ghost use Rattle.std.specs.Prelude.{◌<◌, ◌≤◌, length};
 ghost use Rattle.standard.specs.Sizes.{side};
 ghost use Rattle.laws.specs.Grid.{Square};
@@ -10,6 +11,7 @@ mod codewords; // the codewords of a case
 mod lines; // the lines of the list
 
 use lines::Line;
+use std::io::Read;
 use types::{Mask, NewMask, NewVersion, QrCodeEcc, Version};
 
 // How many grids were compared in full and by digests, how many of them differ, how many
@@ -23,24 +25,24 @@ struct Tally {
     wrong: u64,
 }
 
-fn main() {
-    let t = replay();
-    told(b"compared in full: ", t.full);
-    told(b"compared by digests: ", t.digests);
-    told(b"different: ", t.differ);
-    told(b"not read back: ", t.lost);
-    told(b"wrong answers: ", t.wrong);
+fn main(rt: HostRuntime) {
+    let t = replay(&mut rt.reader());
+    told(&rt, b"compared in full: ", t.full);
+    told(&rt, b"compared by digests: ", t.digests);
+    told(&rt, b"different: ", t.differ);
+    told(&rt, b"not read back: ", t.lost);
+    told(&rt, b"wrong answers: ", t.wrong);
 }
 
 // Writes a line.
-fn told(words: &[u8], n: u64) {
-    io::write_all(1, words);
-    io::print_decimal(1, n);
-    io::write_all(1, b"\n");
+fn told(rt: &impl Print, words: &[u8], n: u64) {
+    streams::say(rt, words);
+    streams::number(rt, n);
+    streams::say(rt, b"\n");
 }
 
 // All lines.
-fn replay() -> Tally {
+fn replay(input: &mut impl Read) -> Tally {
     let mut t = Tally {
         full: 0,
         digests: 0,
@@ -51,7 +53,7 @@ fn replay() -> Tally {
     let mut turns: u64 = 100_000;
     let mut line = [0u8; 32768];
     while 0 < turns {
-        let l = lines::read_line(&mut line);
+        let l = lines::read_line(input, &mut line);
         match l {
             Line::Read(n) => {
                 t = one(t, line, n);
@@ -168,7 +170,7 @@ fn drawn(
 {
     modules::draw_label(grid, ver, ecl, mask, words);
     modules::read_codewords(grid, work, ver, ecl, mask, back);
-    let found = check::same(words, back);
+    let found = *words == *back;
     shown(t, kind, ver, ecl, mask, want, grid, found)
 }
 
@@ -247,7 +249,7 @@ fn told_of(t: Tally, kind: u8, equal: bool, found: bool, right: bool) -> Tally {
 // One more, if it counts.
 fn counted(n: u64, counts: bool) -> u64 {
     if counts {
-        return std::num::wrapping_add_u64(n, 1);
+        return n.wrapping_add(1);
     }
     n
 }

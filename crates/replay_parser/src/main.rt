@@ -1,9 +1,12 @@
 // Runs the strict parser on the data codewords of a fixed list (tools/vectors/parser.rs) and compares its answers, records and characters.
 #![tactic(auto)]
+
 ghost use Rattle.std.specs.Prelude.{◌*◌, ◌<◌, ◌≤◌, length};
 ghost use Rattle.types.specs.Numbers.{IsVersion};
 
 use parser::Counted;
+use std::io::Read;
+use streams::read_full;
 use types::{NewVersion, Version};
 
 // The number of a hexadecimal digit.
@@ -155,14 +158,14 @@ enum Line {
 }
 
 // Reads the rest of a line, n bytes, and compares.
-fn rest(digits: &mut [u8], bytes: &mut [u8], n: usize) -> Line
+fn rest(input: &mut impl Read, digits: &mut [u8], bytes: &mut [u8], n: usize) -> Line
     requires { (n ≤ 16384) × (length bytes.old ≤ 16384) }
 {
     let m = 2 * n + 1;
     if digits.len() < m {
         return Line::Other;
     }
-    let got = io::read_full(0, &mut digits[0..m]);
+    let _ = read_full(input, &mut digits[0..m]);
     decode(digits, bytes);
     if bytes.len() < n {
         return Line::Other;
@@ -174,9 +177,9 @@ fn rest(digits: &mut [u8], bytes: &mut [u8], n: usize) -> Line
 }
 
 // Reads a line and compares: four digits with the count of its bytes, and those bytes.
-fn one() -> Line {
+fn one(input: &mut impl Read) -> Line {
     let mut head = [0u8; 4];
-    let got = io::read_full(0, &mut head);
+    let got = read_full(input, &mut head);
     if got < 4 {
         return Line::End;
     }
@@ -188,14 +191,15 @@ fn one() -> Line {
     }
     let mut digits = [0u8; 32769];
     let mut bytes = [0u8; 16384];
-    rest(&mut digits, &mut bytes, n)
+    rest(input, &mut digits, &mut bytes, n)
 }
 
-fn main() {
+fn main(rt: HostRuntime) {
+    let mut input = rt.reader();
     let mut cases: u64 = 0;
     let mut others: u64 = 0;
     while cases < 1_000_000 {
-        let l = one();
+        let l = one(&mut input);
         match l {
             Line::Same => {
                 cases += 1;
@@ -209,8 +213,8 @@ fn main() {
             }
         }
     }
-    io::print_decimal(1, cases);
-    let told = io::write_all(1, b" lists of data codewords parsed, ");
-    io::print_decimal(1, others);
-    let told = io::write_all(1, b" answers differ\n");
+    streams::number(&rt, cases);
+    streams::say(&rt, b" lists of data codewords parsed, ");
+    streams::number(&rt, others);
+    streams::say(&rt, b" answers differ\n");
 }

@@ -1,11 +1,14 @@
 // Compares penalty scores with those of the original: the byte scan's, and those of the packed lines. A case on standard input is a line of 17 bytes:
 // kind, version, parameter, score. tools/vectors/penalty.rs makes the list, and has the same rules for the grids.
 #![tactic(auto)]
+
 ghost use Rattle.std.specs.Prelude.{◌≡◌, ◌*◌, ◌+◌, ◌<◌, ◌≤◌, length};
 ghost use Rattle.standard.specs.Sizes.{side as side_of};
 ghost use Rattle.laws.specs.Grid.{Square};
 ghost use Rattle.types.specs.Numbers.{IsVersion};
 
+use std::io::Read;
+use streams::read_full;
 use types::Version;
 
 // A digit of a line.
@@ -255,12 +258,12 @@ struct Tally {
 }
 
 // One case more, or the end of the input.
-fn one(t: Tally) -> Tally
+fn one(input: &mut impl Read, t: Tally) -> Tally
     requires { (t.compared < 1000000) × (t.differ ≤ t.compared) }
     ensures { (result.compared ≤ t.compared + 1) × (result.differ ≤ result.compared) }
 {
     let mut line = [0u8; 17];
-    let got = io::read_full(0, &mut line);
+    let got = read_full(input, &mut line);
     if got < 17 {
         return Tally {
             compared: t.compared,
@@ -276,7 +279,7 @@ fn one(t: Tally) -> Tally
 }
 
 // Every case of the input.
-fn all() -> Tally {
+fn all(input: &mut impl Read) -> Tally {
     let mut t = Tally {
         compared: 0,
         differ: 0,
@@ -284,18 +287,16 @@ fn all() -> Tally {
     };
     let mut turns: u64 = 0;
     while turns < 999999 && t.more {
-        t = one(t);
+        t = one(input, t);
         turns += 1;
     }
     t
 }
 
-fn main() {
-    let t = all();
-    let compared = t.compared;
-    let differ = t.differ;
-    io::print_decimal(1, compared);
-    let written = io::write_all(1, b" scores compared, ");
-    io::print_decimal(1, differ);
-    let done = io::write_all(1, b" differ\n");
+fn main(rt: HostRuntime) {
+    let t = all(&mut rt.reader());
+    streams::number(&rt, t.compared);
+    streams::say(&rt, b" scores compared, ");
+    streams::number(&rt, t.differ);
+    streams::say(&rt, b" differ\n");
 }

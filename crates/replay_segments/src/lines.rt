@@ -1,6 +1,9 @@
 // The lines of the list: what is read of them, and what is compared with them.
 ghost use Rattle.std.specs.Prelude.{◌≡◌, ◌<◌, ◌≤◌, length, replicate};
 
+use std::io::Read;
+use streams::read_full;
+
 // A digit of a line.
 pub(crate) fn digit(b: u8) -> usize
     ensures { result ≤ 9 }
@@ -25,18 +28,18 @@ pub(crate) fn six(line: &[u8; 24], at: usize) -> usize
 }
 
 // Reads a line of 24 bytes; zeros at the end of the input.
-pub(crate) fn read_line() -> [u8; 24] {
+pub(crate) fn read_line(input: &mut impl Read) -> [u8; 24] {
     let mut line = [0u8; 24];
-    let got = io::read_full(0, &mut line);
+    let _ = read_full(input, &mut line);
     line
 }
 
 // Reads n bytes and the end of the line, where they fit.
-pub(crate) fn fill(buf: &mut [u8], n: usize) -> bool {
+pub(crate) fn fill(input: &mut impl Read, buf: &mut [u8], n: usize) -> bool {
     if n <= buf.len() {
-        let got = io::read_full(0, &mut buf[0..n]);
+        let got = read_full(input, &mut buf[0..n]);
         let mut end = [0u8; 1];
-        let one = io::read_full(0, &mut end);
+        let _ = read_full(input, &mut end);
         return got == n;
     }
     false
@@ -78,8 +81,8 @@ fn put_record(records: &mut [u64], i: usize, kind: usize, start: usize, len: usi
 }
 
 // Reads record i into a list of numbers, four to a record.
-fn read_record(records: &mut [u64], i: usize) {
-    let line = read_line();
+fn read_record(input: &mut impl Read, records: &mut [u64], i: usize) {
+    let line = read_line(input);
     put_record(
         records,
         i,
@@ -91,10 +94,10 @@ fn read_record(records: &mut [u64], i: usize) {
 }
 
 // Reads records into a list of numbers.
-pub(crate) fn read_records(records: &mut [u64], count: usize) {
+pub(crate) fn read_records(input: &mut impl Read, records: &mut [u64], count: usize) {
     let mut i: usize = 0;
     while i < count {
-        read_record(records, i);
+        read_record(input, records, i);
         i += 1;
     }
 }

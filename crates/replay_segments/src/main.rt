@@ -1,6 +1,7 @@
 // Compares payloads, total bits and data codewords with those of the original.
 // tools/vectors/segments.rs makes the list on standard input, and says how a case stands there.
 #![tactic(auto)]
+
 ghost use Rattle.std.specs.Prelude.{◌≡◌, ◌<◌, T, length, replicate};
 ghost use Rattle.standard.specs.Numbers.{every};
 ghost use Rattle.standard.specs.Sizes.{data_codewords};
@@ -12,6 +13,7 @@ mod lines; // the lines of the list
 
 use lines::{digit, fill, read_line, read_records, same_bits, six, zero};
 use segments::TotalBits;
+use std::io::Read;
 use types::{NewVersion, QrCodeEcc, Version};
 
 // Makes the payload of a kind in a zeroed buffer, and returns the bit after it.
@@ -49,13 +51,13 @@ fn payload_same(text: &[u8], kind: usize, assign: usize, want: &[u8]) -> bool
 }
 
 // A payload: its kind and number, its characters, and its bits.
-fn payload_case(line: &[u8; 24]) -> bool {
+fn payload_case(input: &mut impl Read, line: &[u8; 24]) -> bool {
     let n = six(line, 10);
     let w = six(line, 17);
     let mut text = [0u8; 2048];
     let mut want = [0u8; 32768];
-    if fill(&mut text, n) {
-        if fill(&mut want, w) {
+    if fill(input, &mut text, n) {
+        if fill(input, &mut want, w) {
             if n <= 2048 {
                 if w <= 32768 {
                     return payload_same(&text[0..n], digit(line[1]), six(line, 3), &want[0..w]);
@@ -183,17 +185,17 @@ fn version_same(
 }
 
 // A list of records: its level, version and text, the records, and what is wanted.
-fn list_case(line: &[u8; 24]) -> bool {
+fn list_case(input: &mut impl Read, line: &[u8; 24]) -> bool {
     let n = six(line, 10);
     let count = six(line, 17);
     let mut text = [0u8; 2048];
     let mut records = [0u64; 64];
     let mut words = [0u8; 8192];
-    let whole = fill(&mut text, n);
-    read_records(&mut records, count);
-    let end = read_line();
+    let _ = fill(input, &mut text, n);
+    read_records(input, &mut records, count);
+    let end = read_line(input);
     let m = 2 * six(&end, 10);
-    if fill(&mut words, m) {
+    if fill(input, &mut words, m) {
         if n <= 2048 {
             if count <= 16 {
                 if m <= 8192 {
@@ -228,28 +230,28 @@ fn counted(c: Counts, payload: bool, same: bool) -> Counts {
     let l = if payload { 0 } else { 1 };
     let d = if same { 0 } else { 1 };
     Counts {
-        payloads: std::num::wrapping_add_u64(c.payloads, p),
-        lists: std::num::wrapping_add_u64(c.lists, l),
-        differ: std::num::wrapping_add_u64(c.differ, d),
+        payloads: c.payloads.wrapping_add(p),
+        lists: c.lists.wrapping_add(l),
+        differ: c.differ.wrapping_add(d),
     }
 }
 
 // Prints a number and what it counts.
-fn told(n: u64, what: &[u8]) {
-    io::print_decimal(1, n);
-    let word = io::write_all(1, what);
+fn told(rt: &impl Print, n: u64, what: &[u8]) {
+    streams::number(rt, n);
+    streams::say(rt, what);
 }
 
 // One case and the counts after it.
-fn one(c: Counts, line: &[u8; 24]) -> Counts {
+fn one(input: &mut impl Read, c: Counts, line: &[u8; 24]) -> Counts {
     if line[0] == 80 {
-        return counted(c, true, payload_case(line));
+        return counted(c, true, payload_case(input, line));
     }
-    counted(c, false, list_case(line))
+    counted(c, false, list_case(input, line))
 }
 
 // All cases.
-fn all() -> Counts {
+fn all(input: &mut impl Read) -> Counts {
     let mut c = Counts {
         payloads: 0,
         lists: 0,
@@ -257,22 +259,23 @@ fn all() -> Counts {
     };
     let mut turns = u64::MAX;
     while turns > 0 {
-        let line = read_line();
+        let line = read_line(input);
         if line[0] == 0 {
             return c;
         }
-        c = one(c, &line);
+        c = one(input, c, &line);
         turns -= 1;
     }
     c
 }
 
-fn main() {
-    let c = all();
-    told(c.payloads, b" payloads compared\n");
+fn main(rt: HostRuntime) {
+    let c = all(&mut rt.reader());
+    told(&rt, c.payloads, b" payloads compared\n");
     told(
+        &rt,
         c.lists,
         b" lists of records compared: total bits and data codewords\n",
     );
-    told(c.differ, b" differ\n");
+    told(&rt, c.differ, b" differ\n");
 }

@@ -1,10 +1,15 @@
 -- The number of a word is the one that its digits stand for: each number below 256, in one, two or three digits.
 -- Assumes nothing.
-use Rattle.std.specs.Prelude.{ℕ, ◌<◌, Bool, ◌≡◌, eqb}
+use Rattle.std.specs.Prelude.{ℕ, zero, suc, ◌<◌, ◌/◌, ◌%◌, Bool, ◌≡◌, eqb, List, [], ◌∷◌, ◌++◌}
 use Rattle.std.proofs.Common.{eqb→eq}
-use Rattle.io.specs.Digits.{last_digits}
 use Rattle.laws.specs.Computed.{below}
+use Rattle.terminal.specs.Text.{hex_digit}
 use Rattle.terminal.specs.Words.{number_of}
+
+-- the last k digits of n in base b, the highest first
+abbrev pub last_digits : ℕ → ℕ → ℕ → List ℕ
+last_digits b zero n = []
+last_digits b (suc k) n = last_digits b k (n / b) ++ (hex_digit (n % b) ∷ [])
 
 reads_in : ℕ → ℕ → Bool
 reads_in k n = eqb (number_of (last_digits 10 k n)) n

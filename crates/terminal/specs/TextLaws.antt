@@ -1,7 +1,7 @@
 -- Laws on texts that are written into lent memory one after the other. Where a law has several texts, the last one comes first,
 -- since a search then meets the memory that it writes over before it is asked for.
 -- Assumes nothing.
-use Rattle.std.specs.Prelude.{ℕ, ◌+◌, ◌-◌, ◌/◌, ◌%◌, ◌≤◌, ◌<◌, List, [], ◌∷◌, ◌++◌, ◌≡◌, refl, length, get_or, set, take, drop}
+use Rattle.std.specs.Prelude.{ℕ, ◌+◌, ◌/◌, ◌%◌, ◌≤◌, ◌<◌, List, [], ◌∷◌, ◌++◌, ◌≡◌, refl, length, get_or, set, take, drop}
 use Rattle.std.proofs.Common.{append_assoc, append-nil, sym, ap, ap₂, ◌∙◌, add-one, add-zero, arith, length-append, length-set, take-append-drop, take-suc, take_all, drop-drop, take_at, drop_at, length-take-le, lt-ltb, le-ltb, eq-eqb, ne_eqb}
 use Rattle.std.proofs.lemmas.List.{set_split}
 use Rattle.standard.specs.Numbers.{tabulate, join}

@@ -1,5 +1,6 @@
 // The number types of the original, so that a mask can't be passed as a version, its levels and its modes.
 #![tactic(auto)]
+
 ghost use Rattle.std.specs.Prelude.{◌≡◌, ◌≤◌};
 ghost use Rattle.standard.specs.Format.{level_bits};
 ghost use Rattle.standard.specs.Kinds.{mode_bits, count_width};

@@ -26,13 +26,16 @@ overflow_mul-i c =
 
 pub block_check-requires : goal.block_check-requires
 block_check-requires c =
-    let t = c.loop-i in record { at_le_end = (
+    let t = c.loop-i in record {
+      at_le_end = (
         omega arith,
         omega (arith, block_within c.requires.shape.0 t.i (omega arith)),
         search rules,
         search rules,
         omega (arith, part_within c.args.numblocks (length c.args.rsdiv.now) t.i (omega arith)),
-      ); tables = c.requires.shape.3 }
+      );
+      tables = c.requires.shape.3;
+    }
 
 pub loop-i-preserved : goal.loop-i-preserved
 loop-i-preserved c =

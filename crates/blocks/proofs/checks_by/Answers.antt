@@ -17,12 +17,15 @@ pub block_checks-requires : goal.block_checks-requires
 block_checks-requires c =
     let d = c.reed_solomon_compute_divisor in
     let g = d.new.out in
-    let bytes : Bytes g = subst Bytes (sym d.ensures) (bytes_divisor (length c.args.rsdiv.now)) in record { shape = (
+    let bytes : Bytes g = subst Bytes (sym d.ensures) (bytes_divisor (length c.args.rsdiv.now)) in record {
+      shape = (
         c.requires.shape.0,
         omega (arith, d.auto.out),
         omega (arith, d.auto.out),
         (c.multiples-low.ensures ∙ ap multiples_of (scale_one g bytes), c.multiples-high.ensures),
-      ); data_len = (search rules, c.requires.data_len.1 ∙ ap (λ (k : ℕ). c.args.numblocks * k) (sym d.auto.out)) }
+      );
+      data_len = (search rules, c.requires.data_len.1 ∙ ap (λ (k : ℕ). c.args.numblocks * k) (sym d.auto.out));
+    }
 
 pub returns : goal.returns
 returns c =

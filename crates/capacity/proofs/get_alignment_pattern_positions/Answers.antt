@@ -19,14 +19,12 @@ pub overflow_sub-result-in-loop-i-2 : goal.overflow_sub-result-in-loop-i-2
 overflow_sub-result-in-loop-i-2 c = search (position_le, rules)
 
 pub loop-i-preserved : goal.loop-i-preserved
-loop-i-preserved c =
-     (
-      stored_next c.number-v.result c.loop-i.result c.if-v-eq1.false c.loop-i.i c.alignment_step-step.result _ c.loop-i.invariant.0 c.alignment_step-step.ensures c.number-v.ensures (omega arith) (omega arith) (omega arith),
-      search rules,
-      search rules,
-    )
+loop-i-preserved c = (
+  stored_next c.number-v.result c.loop-i.result c.if-v-eq1.false c.loop-i.i c.alignment_step-step.result _ c.loop-i.invariant.0 c.alignment_step-step.ensures c.number-v.ensures (omega arith) (omega arith) (omega arith),
+  search rules,
+  search rules,
+)
 
 pub returns : goal.returns
 returns c =
-    
     stored_end c.number-v.result c.loop-i.result c.if-v-eq1.false c.loop-i.i _ c.loop-i.invariant.0 (omega arith) (omega arith) c.number-v.ensures

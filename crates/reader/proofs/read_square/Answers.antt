@@ -22,9 +22,14 @@ read_words-requires c =
     let number = c.read_mask in
     let level = c.read_level-ecl in
     let ver = c.args.ver in
-    let known = c.requires.version in record { square = c.requires.square; square_2 = c.requires.square_2; version = (
-            known.0,
-            omega (arith, mask.ensures, number.ensures.1),
-            raw_part ver.0 _ raw.ensures known.0.0 known.0.1,
-            data_part ver.0 _ level.result _ long.ensures known.0.0 known.0.1 (lit≤ tt),
-          ); ecl_value = (level.ensures, mask.ensures ∙ number.ensures.0, known.1) }
+    let known = c.requires.version in record {
+      square = c.requires.square;
+      square_2 = c.requires.square_2;
+      version = (
+        known.0,
+        omega (arith, mask.ensures, number.ensures.1),
+        raw_part ver.0 _ raw.ensures known.0.0 known.0.1,
+        data_part ver.0 _ level.result _ long.ensures known.0.0 known.0.1 (lit≤ tt),
+      );
+      ecl_value = (level.ensures, mask.ensures ∙ number.ensures.0, known.1);
+    }

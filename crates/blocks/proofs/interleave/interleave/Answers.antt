@@ -51,7 +51,7 @@ loop-p-preserved c =
       search rules,
       λ more.
           elim c.if-i-numblocks.branch [
-            then-i-numblocks w ↦ stands_as w.i-is w.c-is (stands_turn c.requires.shape t.i t.c t.p w.first_block-i.result h w.if-i-numblocks.true w.first_block-i.ensures (omega arith))
+            | then-i-numblocks w ↦ stands_as w.i-is w.c-is (stands_turn c.requires.shape t.i t.c t.p w.first_block-i.result h w.if-i-numblocks.true w.first_block-i.ensures (omega arith))
             | else-i-numblocks w ↦ stands_as w.i-is w.c-is (stands_next c.requires.shape t.i t.c t.p h w.if-i-numblocks.false)
           ],
     )

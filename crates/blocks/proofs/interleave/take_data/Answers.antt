@@ -51,7 +51,7 @@ loop-d-preserved c =
       search rules,
       λ more.
           elim c.if-c-len.branch [
-            then-c-len w ↦ within_as w.i-is w.c-is (within_turn c.requires.shape t.i t.c t.d h (w.if-c-len.true ∙ n.ensures) (omega arith))
+            | then-c-len w ↦ within_as w.i-is w.c-is (within_turn c.requires.shape t.i t.c t.d h (w.if-c-len.true ∙ n.ensures) (omega arith))
             | else-c-len w ↦ within_as w.i-is w.c-is (within_next c.requires.shape t.i t.c t.d h (λ e. w.if-c-len.false (e ∙ sym n.ensures)))
           ],
     )

@@ -1,0 +1,11 @@
+-- `replay_blocks::digest` is safe and ends.
+-- Assumes nothing.
+use Prim.Native.Nat.{◌-◌, ◌≤◌, ◌<◌}
+use lib.ListN.{length}
+use Rattle.replay_blocks.proofs.digest.Given as goal
+
+abbrev pub invariant-loop-i : goal.invariant-loop-i
+invariant-loop-i l = (l.h < 4294967291) × (l.i ≤ length l.bytes)
+
+abbrev pub decreases-loop-i : goal.decreases-loop-i
+decreases-loop-i l = length l.bytes - l.i

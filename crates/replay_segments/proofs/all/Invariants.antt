@@ -1,0 +1,10 @@
+-- `replay_segments::all` meets its contract.
+-- Assumes nothing.
+use Rattle.std.proofs.Common.{◌≤◌}
+use Rattle.replay_segments.proofs.all.Given as goal
+
+abbrev pub invariant-loop-turns : goal.invariant-loop-turns
+invariant-loop-turns g l = 0 ≤ l.turns
+
+abbrev pub decreases-loop-turns : goal.decreases-loop-turns
+decreases-loop-turns g l = l.turns

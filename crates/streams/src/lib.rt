@@ -1,0 +1,35 @@
+// Standard input and output as the programs here use them: bytes in lent memory, words and numbers.
+// A read that fails counts as the end of the input. A write that fails is let go: what reads the output is gone then.
+#![tactic(auto)]
+
+ghost use Rattle.std.specs.Prelude.{◌≤◌, length};
+
+use std::io::Read;
+
+// Reads until lent memory is full, the input ends or a read fails, and returns how many bytes stand at its start.
+pub fn read_full(input: &mut impl Read, buf: &mut [u8]) -> usize
+    ensures { result ≤ length buf.new }
+{
+    let mut done: usize = 0;
+    while done < buf.len() {
+        let n = match input.read(&mut buf[done..]) {
+            Ok(n) => n,
+            Err(_) => 0,
+        };
+        if n == 0 {
+            return done;
+        }
+        done += n;
+    }
+    done
+}
+
+// Writes words.
+pub fn say(rt: &impl Print, words: &[u8]) {
+    let _ = rt.write_all(words);
+}
+
+// Writes a number in decimal.
+pub fn number(rt: &impl Print, n: u64) {
+    let _ = rt.print(n);
+}
