@@ -1,6 +1,5 @@
 // The functions for C and Rust: the encoder's entries, the strict reader and the module question, exported. An exported
 // function has no enum, so an answer goes out as a struct of numbers. `include/gatemurmur.h` is their header.
-// The two functions with a slice of records are proved by hand.
 #![tactic(auto)]
 
 mod answers; // answers.rt: the encoder's answers as numbers

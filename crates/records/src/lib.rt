@@ -1,5 +1,5 @@
 // The entries over lent slices of segment records. The work is done on numbers, four to a record; what is here unpacks and packs.
-// A function with a slice of records is proved by hand, so such functions hold nothing but calls, and one loop each.
+// Functions with a slice of records hold nothing but calls, and one loop each.
 #![tactic(auto)]
 
 ghost use Rattle.std.specs.Prelude.{◌≡◌, ◌+◌, ◌*◌, ◌≤◌, min, length, take};

@@ -1,4 +1,4 @@
-//! The examples of `docs/SPECIFICATION.md`, section 10, through the crate, and what only the crate adds.
+//! Document 01's examples through the crate, and what only the crate adds.
 use gatemurmur::{raw, read, DataTooLong, Mask, QrCode, QrCodeEcc, QrSegment, QrSegmentMode, Refusal, Version};
 
 fn range(first: u8, last: u8) -> (Version, Version) {
