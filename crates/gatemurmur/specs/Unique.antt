@@ -7,7 +7,7 @@ use Rattle.standard.specs.Module.{dark}
 use Rattle.reader.specs.Theorems.{read_unique}
 use Rattle.records.specs.declared.Record.{Record}
 use Rattle.records.specs.Records.{parts}
-use Rattle.records.specs.Unique.{parts_one}
+use Rattle.records.proofs.Unique.{parts_one}
 use Rattle.gatemurmur.specs.declared.Reading.{Reading}
 use Rattle.gatemurmur.specs.Told.{Told, told, ReadTold, read_told, Tells}
 

@@ -6,7 +6,8 @@ use Rattle.reader.specs.declared.Outcome.{Outcome}
 use Rattle.reader.specs.Answers.{read_of}
 use Rattle.records.specs.declared.Record.{Record}
 use Rattle.records.specs.Records.{parts, packed}
-use Rattle.records.specs.Reading.{ReadsIn, count, Packed, packs}
+use Rattle.records.specs.Reading.{ReadsIn, count, Packed}
+use Rattle.records.proofs.Reading.{packs}
 use Rattle.records.proofs.read.Goals as goal
 
 module _ (g : List ℕ) (s : ℕ) (text : List ℕ) (rs : List Record) (scratch : List ℕ) (r : Outcome) (o ns z before : List ℕ) (k : ℕ)
