@@ -1,5 +1,4 @@
 // Reads the label of a grid, and says which one it is and what its segments hold.
-// A function with a slice of records is proved by hand, so the two that have one hold nothing but calls, and one loop.
 ghost use Rattle.std.specs.Prelude.{◌+◌, ◌≤◌, ◌<◌, ◌^◌, length};
 ghost use Rattle.records.specs.Reading.{count};
 ghost use Rattle.records.specs.Within.{Within};

@@ -1,0 +1,10 @@
+-- `label::show::tell_segments` meets its contract.
+-- Assumes nothing.
+use Rattle.std.specs.Prelude.{◌-◌, ◌≤◌}
+use Rattle.label.proofs.show.tell_segments.Given as goal
+
+abbrev pub invariant-loop-i : goal.invariant-loop-i
+invariant-loop-i g l = l.i ≤ l.n
+
+abbrev pub decreases-loop-i : goal.decreases-loop-i
+decreases-loop-i g l = l.n - l.i
