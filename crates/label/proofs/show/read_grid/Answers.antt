@@ -1,7 +1,7 @@
 -- `label::show::read_grid` meets the contracts of what it calls: the records that were read fit their room, and name parts of the text.
 -- Assumes nothing.
 use Rattle.std.proofs.Common.{arith}
-use Rattle.records.specs.Within.{read_fits}
+use Rattle.records.proofs.Within.{read_fits}
 use Rattle.label.proofs.show.read_grid.Goals as goal
 
 pub tell_segments-requires : goal.tell_segments-requires
