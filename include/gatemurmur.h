@@ -1,7 +1,7 @@
 /*
  * Gatemurmur: the QR label on a disc sleeve, from segments to modules and back.
  *
- * Link with libgatemurmur.a, which `rt staticlib gatemurmur` writes to target/staticlib, for x86-64. The library has no
+ * Link with libgatemurmur.a, which `bash tools/library` writes to target/staticlib, for x86-64. The library has no
  * state and no memory of its own but the stack, where an entry has local arrays of about 24 KB, and one with records of about
  * 94 KB; it calls memcpy and memset and nothing else. So calls from several threads at once are fine, each with its own buffers.
  *

@@ -10,7 +10,7 @@ fn main() {
     let library = folder.join("libgatemurmur.a");
     if !library.is_file() {
         panic!(
-            "{} is not there: make it with 'rt staticlib gatemurmur', or set GATEMURMUR_LIB to its folder",
+            "{} is not there: make it with 'bash tools/library', or set GATEMURMUR_LIB to its folder",
             library.display()
         );
     }

@@ -1,7 +1,7 @@
 -- A loop over the rows, and in each over the cells, of the square of the cells at most r away from (cx, cy), with what lies off the grid left out:
 -- offsets dx and dy run from 0 to 2 * r, and the cell has x + r = cx + dx and y + r = cy + dy. One law for every pattern p that changes nothing further away.
 -- Assumes nothing.
-use Rattle.std.specs.Prelude.{◌≡◌, List, true, ℕ, ◌+◌, ◌-◌, ◌*◌, ◌≤◌, ◌<◌, get_or, set, ltb}
+use Rattle.std.specs.Prelude.{◌≡◌, List, true, ℕ, ◌+◌, ◌*◌, ◌≤◌, ◌<◌, get_or, set, ltb}
 use Rattle.std.proofs.Common.{◌∙◌, le_antisymm, add_assoc, arith}
 use Rattle.std.proofs.Math.Dec.{eqb}
 use Rattle.laws.specs.Grid.{Pattern, Square, on, paint, none_keys, set_keys, scan, scan_start, scan_end}

@@ -1,6 +1,6 @@
 -- Single cells, one after the other: for what is drawn at places that a formula gives, as the format bits are.
 -- Assumes nothing.
-use Rattle.std.specs.Prelude.{◌≡◌, refl, List, ℕ, zero, suc, ◌+◌, ◌-◌, ◌*◌, ◌≤◌, ◌<◌, set}
+use Rattle.std.specs.Prelude.{◌≡◌, refl, List, ℕ, zero, suc, ◌+◌, ◌*◌, ◌≤◌, ◌<◌, set}
 use Rattle.std.proofs.Common.{◌∙◌, le_antisymm, add-one}
 use Rattle.laws.specs.Grid.{Pattern, Square, paint, paint_paint, paint_none}
 use Rattle.laws.specs.Store.{at_cell, store}

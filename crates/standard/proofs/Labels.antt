@@ -2,7 +2,7 @@
 -- Numbers, details and orders are those of document 01, "Refusal table"; that 7 bytes fill 1-H and 17 bytes 1-L is the original's.
 -- Assumes nothing.
 use Prim.Native.Nat.{ℕ, zero, suc}
-use mathlib.Core.Bool.{Bool, true, false}
+use mathlib.Core.Bool.{true, false}
 use mathlib.Core.List.{List, [], ◌∷◌, map}
 use mathlib.Core.Path.{◌≡◌, refl, ap, sym, ◌∙◌}
 use native.Mathlib.Omega.{arith}
@@ -11,7 +11,7 @@ use Rattle.standard.specs.Segments.{Part, Segment}
 use Rattle.standard.specs.Plan.{Refusal, refusal}
 use Rattle.standard.specs.Encode.{zeroed}
 use Rattle.standard.specs.Label.{Label, is_label, Shows}
-use Rattle.standard.specs.Read.{Read, read_as, First, nothing, refused_by, first_refusal, refuse_to, characters, records_from, labelled, Finds, shown, none, Reads, refuses, looks}
+use Rattle.standard.specs.Read.{Read, read_as, First, nothing, refused_by, first_refusal, refuse_to, characters, records_from, labelled, shown, none, Reads, refuses, looks}
 use Rattle.standard.proofs.Open.{opened}
 
 -- ---- labels

@@ -8,7 +8,6 @@ use mathlib.Core.List.{List, [], ◌∷◌, ◌++◌, map}
 use mathlib.Core.Path.{◌≡◌, refl}
 use lib.Dec.{T}
 use lib.ListN.{length, replicate}
-use Rattle.standard.specs.Numbers.{tabulate}
 use Rattle.standard.specs.Penalty.{line_cost, balance, penalty}
 use Rattle.standard.specs.Choice.{place_of_least}
 use Rattle.standard.proofs.Open.{opened}

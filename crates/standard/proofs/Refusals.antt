@@ -8,7 +8,7 @@ use mathlib.Core.List.{List, [], ◌∷◌, ◌++◌}
 use mathlib.Core.Path.{◌≡◌, refl}
 use lib.Dec.{T}
 use lib.ListN.{replicate}
-use Rattle.standard.specs.Segments.{Part, whole, byte_parts}
+use Rattle.standard.specs.Segments.{Part}
 use Rattle.standard.specs.Plan.{refusal, plan}
 use Rattle.standard.specs.Encode.{accepted, refuse, accept, encode, encode_text, encode_bytes, encode_codewords}
 use Rattle.standard.proofs.Open.{opened}

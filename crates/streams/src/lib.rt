@@ -2,24 +2,24 @@
 // A read that fails counts as the end of the input. A write that fails is let go: what reads the output is gone then.
 #![tactic(auto)]
 
-ghost use Rattle.std.specs.Prelude.{◌≤◌, length};
+ghost use Rattle.std.specs.Prelude.{◌≤◌, length, take};
+ghost use Rattle.std.specs.Io.KnownBytes.{Consumes};
 
 use std::io::Read;
 
-// Reads until lent memory is full, the input ends or a read fails, and returns how many bytes stand at its start.
-pub fn read_full(input: &mut impl Read, buf: &mut [u8]) -> usize
-    ensures { result ≤ length buf.new }
+// Reads until lent memory is full, the input ends or a read fails, and returns how many bytes stand at its start:
+// the input's next, in their order.
+pub fn read_full<R: Read>(input: &mut R, buf: &mut [u8]) -> usize
+    ensures bound { result ≤ length buf.new }
+    ensures bytes { Consumes (R.remaining input.old) (R.remaining input.new) (take result buf.new) }
 {
     let mut done: usize = 0;
     while done < buf.len() {
-        let n = match input.read(&mut buf[done..]) {
-            Ok(n) => n,
-            Err(_) => 0,
-        };
-        if n == 0 {
-            return done;
+        match input.read(&mut buf[done..]) {
+            Ok(0) => return done,
+            Ok(n) => done += n,
+            Err(_) => return done,
         }
-        done += n;
     }
     done
 }

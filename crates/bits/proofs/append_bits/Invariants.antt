@@ -1,13 +1,10 @@
 -- `bits::append_bits` meets its contract: piece after piece is put into its byte.
 -- Assumes nothing.
-use Prim.Native.Nat.{◌-◌, ◌≤◌}
-use mathlib.Core.Path.{◌≡◌, refl, ◌∙◌}
-use native.Mathlib.Omega.{arith}
-use Rattle.std.proofs.Common.{rules}
+use Prim.Native.Nat.{◌≤◌}
+use mathlib.Core.Path.{◌≡◌}
 use lib.ListN.{length}
 use Rattle.standard.specs.Bits.{bits}
-use Rattle.bits.specs.Appended.{Progress, progress_start}
-use Rattle.bits.specs.Pieces.{power_some, piece_lt, piece_byte, piece_free, piece_room, piece_next, pieces_end}
+use Rattle.bits.specs.Appended.{Progress}
 use Rattle.bits.proofs.append_bits.Given as goal
 
 abbrev pub invariant-loop-left : goal.invariant-loop-left

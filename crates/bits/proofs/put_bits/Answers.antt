@@ -1,7 +1,6 @@
 -- `bits::put_bits` meets its contract: one byte is or-ed with the bits.
 -- Assumes nothing.
 use Prim.Native.Nat.{◌/◌}
-use Rattle.std.proofs.Common.{rules}
 use Rattle.bits.specs.Pieces.{inside, put_piece}
 use Rattle.bits.proofs.put_bits.Goals as goal
 

@@ -4,7 +4,6 @@ use Prim.Native.Nat.{◌-◌, ◌/◌, ◌%◌, ◌^◌}
 use mathlib.Core.Path.{sym, ◌∙◌}
 use lib.Bits.{and_mask}
 use Rattle.bits.specs.PackedLaws.{get_d_unpack_at}
-use Rattle.std.proofs.Common.{rules}
 use lib.ListN.{get_or}
 use Rattle.bits.proofs.read_bit.Goals as goal
 

@@ -4,7 +4,6 @@ use Prim.Native.Nat.{ℕ, ◌+◌}
 use mathlib.Core.List.{List, ◌++◌}
 use mathlib.Core.Path.{ap, ◌∙◌}
 use lib.ListN.{length, take, drop}
-use Rattle.std.proofs.Common.{rules}
 use Rattle.blocks.specs.Checks.{mid}
 use Rattle.blocks.proofs.block_check.Goals as goal
 

@@ -3,12 +3,9 @@
 use Prim.Native.Nat.{◌-◌, ◌*◌, ◌≤◌}
 use mathlib.Core.List.{◌++◌}
 use mathlib.Core.Path.{◌≡◌}
-use native.Mathlib.Omega.{arith}
 use lib.ListN.{length, drop}
-use Rattle.std.proofs.Common.{rules}
 use Rattle.blocks.specs.Shape.{start_in}
-use Rattle.blocks.specs.Checks.{rests_in, rests_start, rests_turn, rests_end, next_start, block_within, part_within}
-use Rattle.blocks.specs.Code.{product_small, row_small}
+use Rattle.blocks.specs.Checks.{rests_in}
 use Rattle.blocks.proofs.block_checks.Given as goal
 
 abbrev pub invariant-loop-i : goal.invariant-loop-i

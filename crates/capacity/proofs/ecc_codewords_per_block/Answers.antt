@@ -5,7 +5,6 @@ use mathlib.Core.Path.{ap₂, ◌∙◌}
 use Rattle.standard.specs.Sizes.{check_bytes}
 use Rattle.types.specs.Laws.{level_le}
 use mathlib.Core.Path.{◌∙◌}
-use Rattle.std.proofs.Common.{rules}
 use Rattle.capacity.proofs.ecc_codewords_per_block.Goals as goal
 
 pub table_check-requires : goal.table_check-requires

@@ -1,9 +1,7 @@
 -- `capacity::get_alignment_pattern_positions` meets its contract.
 -- Assumes nothing.
-use native.Mathlib.Omega.{arith}
 use Prim.Native.Nat.{◌-◌, ◌≤◌}
-use Rattle.capacity.specs.Positions.{position_le, none, Stored, stored_first, stored_next, stored_end}
-use Rattle.std.proofs.Common.{rules}
+use Rattle.capacity.specs.Positions.{Stored}
 use Rattle.capacity.proofs.get_alignment_pattern_positions.Given as goal
 
 abbrev pub invariant-loop-i : goal.invariant-loop-i

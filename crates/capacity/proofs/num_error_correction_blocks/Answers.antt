@@ -5,7 +5,6 @@ use mathlib.Core.Path.{ap₂, ◌∙◌}
 use Rattle.standard.specs.Sizes.{blocks}
 use Rattle.types.specs.Laws.{level_le}
 use mathlib.Core.Path.{◌∙◌}
-use Rattle.std.proofs.Common.{rules}
 use Rattle.capacity.proofs.num_error_correction_blocks.Goals as goal
 
 pub table_blocks-requires : goal.table_blocks-requires

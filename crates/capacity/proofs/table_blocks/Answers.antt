@@ -2,7 +2,6 @@
 -- Assumes nothing.
 use Rattle.standard.specs.Sizes.{blocks}
 use Rattle.standard.specs.Tables.{block_table}
-use Rattle.std.proofs.Common.{rules}
 use Rattle.capacity.proofs.table_blocks.Goals as goal
 
 pub returns : goal.returns

@@ -2,7 +2,6 @@
 -- Assumes nothing.
 use Rattle.standard.specs.Sizes.{check_bytes}
 use Rattle.standard.specs.Tables.{check_table}
-use Rattle.std.proofs.Common.{rules}
 use Rattle.capacity.proofs.table_check.Goals as goal
 
 pub returns : goal.returns

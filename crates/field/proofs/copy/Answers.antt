@@ -1,12 +1,12 @@
 -- `field::copy` meets its contract.
 -- Assumes nothing.
-use Prim.Native.Nat.{ℕ, ◌-◌, ◌≤◌}
-use mathlib.Core.Path.{◌≡◌, refl, ap, ◌∙◌}
+use Prim.Native.Nat.{ℕ}
+use mathlib.Core.Path.{refl, ap, ◌∙◌}
 use mathlib.Core.List.{List}
 use native.Mathlib.Omega.{arith}
 use Rattle.std.proofs.Common.{rules}
-use lib.ListN.{length, get_or, set, length-set}
-use Rattle.laws.specs.Front.{front, front_suc, front_all}
+use lib.ListN.{get_or, set, length-set}
+use Rattle.laws.specs.Front.{front_suc, front_all}
 use Rattle.field.proofs.copy.Goals as goal
 
 pub loop-j-preserved : goal.loop-j-preserved

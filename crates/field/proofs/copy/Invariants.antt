@@ -1,12 +1,9 @@
 -- `field::copy` meets its contract.
 -- Assumes nothing.
-use Prim.Native.Nat.{ℕ, ◌-◌, ◌≤◌}
-use mathlib.Core.Path.{◌≡◌, refl, ap, ◌∙◌}
-use mathlib.Core.List.{List}
-use native.Mathlib.Omega.{arith}
-use Rattle.std.proofs.Common.{rules}
-use lib.ListN.{length, get_or, set, length-set}
-use Rattle.laws.specs.Front.{front, front_suc, front_all}
+use Prim.Native.Nat.{◌-◌, ◌≤◌}
+use mathlib.Core.Path.{◌≡◌}
+use lib.ListN.{length}
+use Rattle.laws.specs.Front.{front}
 use Rattle.field.proofs.copy.Given as goal
 
 abbrev pub invariant-loop-j : goal.invariant-loop-j

@@ -1,6 +1,5 @@
 -- `field::double` meets its contract.
 -- Assumes nothing.
-use Rattle.std.proofs.Common.{rules}
 use Rattle.field.specs.Times.{double_byte}
 use Rattle.field.proofs.double.Goals as goal
 

@@ -1,9 +1,8 @@
 -- `field::multiples` meets its contract.
 -- Assumes nothing.
-use Prim.Native.Nat.{◌-◌, ◌*◌, ◌≤◌, ◌<◌}
-use mathlib.Core.Path.{◌≡◌, refl, ap, ◌∙◌}
+use mathlib.Core.Path.{refl, ap, ◌∙◌}
 use Rattle.std.proofs.Common.{rules}
-use lib.ListN.{length, take}
+use lib.ListN.{length}
 use Rattle.field.specs.Multiples.{multiples_of, length_padded, multiples_padded, row_start, rows_end}
 use Rattle.field.proofs.multiples.Goals as goal
 

@@ -1,10 +1,9 @@
 -- `field::multiples` meets its contract.
 -- Assumes nothing.
 use Prim.Native.Nat.{◌-◌, ◌*◌, ◌≤◌, ◌<◌}
-use mathlib.Core.Path.{◌≡◌, refl, ap, ◌∙◌}
-use Rattle.std.proofs.Common.{rules}
+use mathlib.Core.Path.{◌≡◌}
 use lib.ListN.{length, take}
-use Rattle.field.specs.Multiples.{multiples_of, length_padded, multiples_padded, row_start, rows_end}
+use Rattle.field.specs.Multiples.{multiples_of}
 use Rattle.field.proofs.multiples.Given as goal
 
 abbrev pub invariant-loop-n : goal.invariant-loop-n

@@ -1,11 +1,11 @@
 -- `field::next_row` meets its contract.
 -- Assumes nothing.
-use Prim.Native.Nat.{ℕ, ◌+◌, ◌-◌, ◌*◌, ◌%◌, ◌≤◌}
+use Prim.Native.Nat.{ℕ, ◌+◌, ◌*◌, ◌%◌}
 use mathlib.Core.Path.{◌≡◌, ◌∙◌, subst}
 use native.Mathlib.Omega.{arith}
 use Rattle.std.proofs.Common.{rules}
 use lib.Bits.{bit_xor}
-use lib.ListN.{length, get_or, take, length-set}
+use lib.ListN.{get_or, take, length-set}
 use Rattle.field.specs.Times.{bit_lt}
 use Rattle.field.specs.Multiples.{multiples_of, row_turn}
 use Rattle.field.proofs.next_row.Goals as goal

@@ -1,13 +1,9 @@
 -- `field::next_row` meets its contract.
 -- Assumes nothing.
-use Prim.Native.Nat.{ℕ, ◌+◌, ◌-◌, ◌*◌, ◌%◌, ◌≤◌}
-use mathlib.Core.Path.{◌≡◌, ◌∙◌, subst}
-use native.Mathlib.Omega.{arith}
-use Rattle.std.proofs.Common.{rules}
-use lib.Bits.{bit_xor}
-use lib.ListN.{length, get_or, take, length-set}
-use Rattle.field.specs.Times.{bit_lt}
-use Rattle.field.specs.Multiples.{multiples_of, row_turn}
+use Prim.Native.Nat.{◌+◌, ◌-◌, ◌*◌, ◌≤◌}
+use mathlib.Core.Path.{◌≡◌}
+use lib.ListN.{length, take}
+use Rattle.field.specs.Multiples.{multiples_of}
 use Rattle.field.proofs.next_row.Given as goal
 
 abbrev pub invariant-loop-j : goal.invariant-loop-j

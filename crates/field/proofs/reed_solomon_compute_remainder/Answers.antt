@@ -1,6 +1,6 @@
 -- `field::reed_solomon_compute_remainder` meets its contract.
 -- Assumes nothing.
-use Prim.Native.Nat.{ℕ, ◌-◌, ◌≤◌}
+use Prim.Native.Nat.{ℕ, ◌-◌}
 use mathlib.Core.Path.{◌≡◌, refl, ap, ◌∙◌}
 use native.Mathlib.Omega.{arith}
 use Rattle.std.proofs.Common.{rules}
@@ -8,7 +8,7 @@ use lib.ListN.{length, take}
 use lib.Seq.{take_all}
 use Rattle.standard.specs.Field.{scale, remainder}
 use Rattle.field.specs.Division.{length_remainder}
-use Rattle.field.specs.Multiples.{Alike, length_multiples, divide_start, divide_turn, alike_part}
+use Rattle.field.specs.Multiples.{length_multiples, divide_start, divide_turn, alike_part}
 use Rattle.field.proofs.reed_solomon_compute_remainder.Goals as goal
 
 pub loop-i-init : goal.loop-i-init

@@ -1,6 +1,6 @@
 -- `field::reed_solomon_multiply` meets its contract.
 -- Assumes nothing.
-use Prim.Native.Nat.{suc, ◌-◌, ◌/◌, ◌^◌, ◌≤◌}
+use Prim.Native.Nat.{suc, ◌-◌, ◌/◌, ◌^◌}
 use mathlib.Core.Path.{◌≡◌, refl, ap, ◌∙◌}
 use native.Mathlib.Omega.{arith}
 use native.Mathlib.Nat.{div-one}

@@ -3,7 +3,6 @@
 use Prim.Native.Nat.{ℕ, ◌+◌, ◌-◌, ◌*◌}
 use mathlib.Core.Path.{◌≡◌, ap, ◌∙◌}
 use native.Mathlib.Omega.{arith}
-use Rattle.std.proofs.Common.{rules}
 use lib.ListN.{take, drop}
 use Rattle.field.proofs.row_of.Goals as goal
 

@@ -1,11 +1,9 @@
 -- `field::scaled` meets its contract.
 -- Assumes nothing.
-use Prim.Native.Nat.{◌-◌, ◌≤◌}
-use mathlib.Core.Path.{◌≡◌, ◌∙◌}
+use mathlib.Core.Path.{◌∙◌}
 use Rattle.std.proofs.Common.{rules}
-use lib.ListN.{length, length-set}
-use Rattle.laws.specs.Front.{front}
-use Rattle.field.specs.Multiples.{wide, padded, padded_start, padded_turn, padded_end}
+use lib.ListN.{length-set}
+use Rattle.field.specs.Multiples.{padded_start, padded_turn, padded_end}
 use Rattle.field.proofs.scaled.Goals as goal
 
 pub loop-j-init : goal.loop-j-init

@@ -1,11 +1,10 @@
 -- `field::scaled` meets its contract.
 -- Assumes nothing.
 use Prim.Native.Nat.{◌-◌, ◌≤◌}
-use mathlib.Core.Path.{◌≡◌, ◌∙◌}
-use Rattle.std.proofs.Common.{rules}
-use lib.ListN.{length, length-set}
+use mathlib.Core.Path.{◌≡◌}
+use lib.ListN.{length}
 use Rattle.laws.specs.Front.{front}
-use Rattle.field.specs.Multiples.{wide, padded, padded_start, padded_turn, padded_end}
+use Rattle.field.specs.Multiples.{wide, padded}
 use Rattle.field.proofs.scaled.Given as goal
 
 abbrev pub invariant-loop-j : goal.invariant-loop-j

@@ -1,12 +1,8 @@
 -- `field::widened` meets its contract.
 -- Assumes nothing.
-use Prim.Native.Nat.{◌-◌, ◌≤◌}
-use mathlib.Core.Path.{◌≡◌}
 use native.Mathlib.Omega.{arith}
 use Rattle.std.proofs.Common.{rules}
-use Rattle.standard.specs.Field.{zeros}
-use Rattle.laws.specs.Front.{front}
-use Rattle.field.specs.Multiples.{wide, wide_turn, wide_end}
+use Rattle.field.specs.Multiples.{wide_turn, wide_end}
 use Rattle.field.proofs.widened.Goals as goal
 
 pub loop-j-preserved : goal.loop-j-preserved

@@ -2,11 +2,9 @@
 -- Assumes nothing.
 use Prim.Native.Nat.{◌-◌, ◌≤◌}
 use mathlib.Core.Path.{◌≡◌}
-use native.Mathlib.Omega.{arith}
-use Rattle.std.proofs.Common.{rules}
 use Rattle.standard.specs.Field.{zeros}
 use Rattle.laws.specs.Front.{front}
-use Rattle.field.specs.Multiples.{wide, wide_turn, wide_end}
+use Rattle.field.specs.Multiples.{wide}
 use Rattle.field.proofs.widened.Given as goal
 
 abbrev pub invariant-loop-j : goal.invariant-loop-j

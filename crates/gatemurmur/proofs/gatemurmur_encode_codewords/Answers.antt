@@ -1,7 +1,6 @@
 -- `gatemurmur_encode_codewords` meets its contract.
 -- Assumes nothing.
 use Rattle.gatemurmur.specs.Laws.{entry_told}
-use Rattle.std.proofs.Common.{rules}
 use Rattle.gatemurmur.proofs.gatemurmur_encode_codewords.Goals as goal
 
 pub returns : goal.returns

@@ -1,7 +1,6 @@
 -- `gatemurmur_get_module` meets its contract.
 -- Assumes nothing.
 use Rattle.gatemurmur.specs.Laws.{module_told}
-use Rattle.std.proofs.Common.{rules}
 use Rattle.gatemurmur.proofs.gatemurmur_get_module.Goals as goal
 
 pub returns : goal.returns

@@ -1,10 +1,6 @@
 -- `equal` compares whole lists.
 -- Assumes nothing.
-use Prim.Native.Nat.{◌-◌, ◌≤◌}
-use mathlib.Core.Path.{◌≡◌}
 use Rattle.std.proofs.Common.{rules}
-use lib.ListN.{length, drop}
-use Rattle.standard.specs.Numbers.{same}
 use Rattle.reader.specs.Early.{same_next, same_off, same_end}
 use Rattle.reader.proofs.equal.Goals as goal
 

@@ -2,10 +2,8 @@
 -- Assumes nothing.
 use Prim.Native.Nat.{◌-◌, ◌≤◌}
 use mathlib.Core.Path.{◌≡◌}
-use Rattle.std.proofs.Common.{rules}
 use lib.ListN.{length, drop}
 use Rattle.standard.specs.Numbers.{same}
-use Rattle.reader.specs.Early.{same_next, same_off, same_end}
 use Rattle.reader.proofs.equal.Given as goal
 
 abbrev pub invariant-loop-i : goal.invariant-loop-i

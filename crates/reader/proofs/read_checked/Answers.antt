@@ -1,9 +1,7 @@
 -- `read_checked` draws in scratch and zeroes it.
 -- Assumes nothing.
-use Prim.Native.Nat.{zero}
 use mathlib.Core.Path.{ap, ◌∙◌}
 use native.Mathlib.Omega.{arith}
-use Rattle.std.proofs.Common.{rules}
 use lib.ListN.{length}
 use Rattle.laws.specs.Grid.{area_small}
 use Rattle.reader.specs.Entry.{area_square, zeroed_all, zeroed_length, finds_zeroed}

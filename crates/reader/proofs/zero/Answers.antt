@@ -1,10 +1,7 @@
 -- `zero` makes every byte 0.
 -- Assumes nothing.
-use Prim.Native.Nat.{◌-◌, ◌≤◌}
-use mathlib.Core.Path.{◌≡◌}
 use Rattle.std.proofs.Common.{rules}
-use lib.ListN.{length}
-use Rattle.laws.specs.Each.{each_done, each_start, each_next}
+use Rattle.laws.specs.Each.{each_start, each_next}
 use Rattle.modules.specs.Finished.{clear_end}
 use Rattle.reader.proofs.zero.Goals as goal
 

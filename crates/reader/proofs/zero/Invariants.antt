@@ -2,10 +2,8 @@
 -- Assumes nothing.
 use Prim.Native.Nat.{◌-◌, ◌≤◌}
 use mathlib.Core.Path.{◌≡◌}
-use Rattle.std.proofs.Common.{rules}
 use lib.ListN.{length}
-use Rattle.laws.specs.Each.{each_done, each_start, each_next}
-use Rattle.modules.specs.Finished.{clear_end}
+use Rattle.laws.specs.Each.{each_done}
 use Rattle.reader.proofs.zero.Given as goal
 
 abbrev pub invariant-loop-k : goal.invariant-loop-k

@@ -1,7 +1,6 @@
 -- `blocks::interleave::block_start` meets its contract.
 -- Assumes nothing.
 use native.Mathlib.Omega.{arith}
-use Rattle.std.proofs.Common.{rules}
 use Rattle.blocks.specs.Code.{product_small}
 use Rattle.blocks.proofs.interleave.block_start.Goals as goal
 

@@ -1,14 +1,11 @@
 -- `blocks::interleave::interleave` meets its contract.
 -- Assumes nothing.
-use Prim.Native.Nat.{◌+◌, ◌-◌, ◌≤◌, ◌<◌}
-use mathlib.Core.Path.{◌≡◌}
+use Prim.Native.Nat.{◌+◌}
 use native.Mathlib.Omega.{arith}
-use lib.ListN.{length, get_or}
 use Rattle.std.proofs.Common.{rules}
-use Rattle.laws.specs.Each.{each_done, each_start, each_end}
-use Rattle.blocks.specs.Shape.{source_in}
+use Rattle.laws.specs.Each.{each_start, each_end}
 use Rattle.blocks.specs.Code.{row_small, source_lt, source_next}
-use Rattle.blocks.specs.Running.{Stands, stands_start, stands_next, stands_turn, stands_as, stands_source}
+use Rattle.blocks.specs.Running.{stands_start, stands_next, stands_turn, stands_as, stands_source}
 use Rattle.blocks.proofs.interleave.interleave.Goals as goal
 use Rattle.blocks.proofs.interleave.interleave.Goals.{then-i-numblocks, else-i-numblocks}
 

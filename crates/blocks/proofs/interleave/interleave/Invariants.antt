@@ -1,15 +1,11 @@
 -- `blocks::interleave::interleave` meets its contract.
 -- Assumes nothing.
-use Prim.Native.Nat.{◌+◌, ◌-◌, ◌≤◌, ◌<◌}
+use Prim.Native.Nat.{◌-◌, ◌≤◌, ◌<◌}
 use mathlib.Core.Path.{◌≡◌}
-use mathlib.Core.Logic.{⊎_elim}
-use native.Mathlib.Omega.{arith}
 use lib.ListN.{length, get_or}
-use Rattle.std.proofs.Common.{rules}
-use Rattle.laws.specs.Each.{each_done, each_start, each_end}
+use Rattle.laws.specs.Each.{each_done}
 use Rattle.blocks.specs.Shape.{source_in}
-use Rattle.blocks.specs.Code.{row_small, source_lt, source_next}
-use Rattle.blocks.specs.Running.{Stands, stands_start, stands_next, stands_turn, stands_as, stands_source}
+use Rattle.blocks.specs.Running.{Stands}
 use Rattle.blocks.proofs.interleave.interleave.Given as goal
 
 abbrev pub invariant-loop-p : goal.invariant-loop-p

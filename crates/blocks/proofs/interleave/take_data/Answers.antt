@@ -1,14 +1,12 @@
 -- `blocks::interleave::take_data` meets its contract.
 -- Assumes nothing.
-use Prim.Native.Nat.{◌-◌, ◌≤◌, ◌<◌}
-use mathlib.Core.Path.{◌≡◌, sym, ◌∙◌}
+use mathlib.Core.Path.{sym, ◌∙◌}
 use native.Mathlib.Omega.{arith}
-use lib.ListN.{length, get_or}
 use Rattle.std.proofs.Common.{rules}
-use Rattle.laws.specs.Each.{each_done, each_start, each_end}
-use Rattle.blocks.specs.Undo.{position_in, position_lt}
+use Rattle.laws.specs.Each.{each_start, each_end}
+use Rattle.blocks.specs.Undo.{position_lt}
 use Rattle.blocks.specs.Code.{position_next}
-use Rattle.blocks.specs.Running.{Within, within_start, within_next, within_turn, within_as, within_column, within_position}
+use Rattle.blocks.specs.Running.{within_start, within_next, within_turn, within_as, within_column, within_position}
 use Rattle.blocks.proofs.interleave.take_data.Goals as goal
 use Rattle.blocks.proofs.interleave.take_data.Goals.{then-c-len, else-c-len}
 

@@ -1,15 +1,11 @@
 -- `blocks::interleave::take_data` meets its contract.
 -- Assumes nothing.
 use Prim.Native.Nat.{◌-◌, ◌≤◌, ◌<◌}
-use mathlib.Core.Path.{◌≡◌, sym, ◌∙◌}
-use mathlib.Core.Logic.{⊎_elim}
-use native.Mathlib.Omega.{arith}
+use mathlib.Core.Path.{◌≡◌}
 use lib.ListN.{length, get_or}
-use Rattle.std.proofs.Common.{rules}
-use Rattle.laws.specs.Each.{each_done, each_start, each_end}
-use Rattle.blocks.specs.Undo.{position_in, position_lt}
-use Rattle.blocks.specs.Code.{position_next}
-use Rattle.blocks.specs.Running.{Within, within_start, within_next, within_turn, within_as, within_column, within_position}
+use Rattle.laws.specs.Each.{each_done}
+use Rattle.blocks.specs.Undo.{position_in}
+use Rattle.blocks.specs.Running.{Within}
 use Rattle.blocks.proofs.interleave.take_data.Given as goal
 
 abbrev pub invariant-loop-d : goal.invariant-loop-d

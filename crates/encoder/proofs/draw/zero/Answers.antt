@@ -1,13 +1,10 @@
 -- `draw::zero` meets its contract: after i turns the first i bytes are 0.
 -- Assumes nothing.
-use Prim.Native.Nat.{◌≤◌, ◌-◌}
-use mathlib.Core.Path.{◌≡◌, ap, ◌∙◌}
+use mathlib.Core.Path.{ap, ◌∙◌}
 use native.Mathlib.Omega.{arith}
 use native.Mathlib.Nat.{le_antisymm}
-use Rattle.std.proofs.Common.{rules}
 use borrow.Author.Fill.{fill_more}
-use lib.ListN.{length, length-set, set}
-use Rattle.encoder.specs.Drawing.{zeros}
+use lib.ListN.{length-set, set}
 use Rattle.encoder.proofs.draw.zero.Goals as goal
 
 pub bounds-scratch-i : goal.bounds-scratch-i

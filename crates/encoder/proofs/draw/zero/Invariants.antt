@@ -1,12 +1,8 @@
 -- `draw::zero` meets its contract: after i turns the first i bytes are 0.
 -- Assumes nothing.
 use Prim.Native.Nat.{◌≤◌, ◌-◌}
-use mathlib.Core.Path.{◌≡◌, ap, ◌∙◌}
-use native.Mathlib.Omega.{arith}
-use native.Mathlib.Nat.{le_antisymm}
-use Rattle.std.proofs.Common.{rules}
-use borrow.Author.Fill.{fill_more}
-use lib.ListN.{length, length-set, set}
+use mathlib.Core.Path.{◌≡◌}
+use lib.ListN.{length}
 use Rattle.encoder.specs.Drawing.{zeros}
 use Rattle.encoder.proofs.draw.zero.Given as goal
 

@@ -1,9 +1,6 @@
 -- `encoder::plan::plan_fit` meets its contract.
 -- Assumes nothing.
-use Prim.Native.Nat.{◌-◌}
-use Rattle.standard.specs.Segments.{segments_of}
-use Rattle.segments.specs.Records.{parts_of}
-use Rattle.encoder.specs.Search.{Searched, search_start, bits_next, bits_last, length_next, length_last, found_room, found_last}
+use Rattle.encoder.specs.Search.{search_start, bits_next, bits_last, length_next, length_last, found_room, found_last}
 use Rattle.std.proofs.Common.{rules}
 use Rattle.encoder.proofs.plan.plan_fit.Goals as goal
 

@@ -3,8 +3,7 @@
 use Prim.Native.Nat.{◌-◌}
 use Rattle.standard.specs.Segments.{segments_of}
 use Rattle.segments.specs.Records.{parts_of}
-use Rattle.encoder.specs.Search.{Searched, search_start, bits_next, bits_last, length_next, length_last, found_room, found_last}
-use Rattle.std.proofs.Common.{rules}
+use Rattle.encoder.specs.Search.{Searched}
 use Rattle.encoder.proofs.plan.plan_fit.Given as goal
 
 abbrev pub invariant-loop-n : goal.invariant-loop-n

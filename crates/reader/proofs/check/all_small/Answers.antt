@@ -1,11 +1,8 @@
 -- `all_small` looks at one byte after the other.
 -- Assumes nothing.
-use Prim.Native.Nat.{◌-◌, ◌≤◌}
-use mathlib.Core.Path.{◌≡◌}
 use Rattle.std.proofs.Common.{rules}
-use lib.ListN.{length}
 use Rattle.laws.specs.All.{all_none, all_end}
-use Rattle.reader.specs.Early.{small_to, small_next}
+use Rattle.reader.specs.Early.{small_next}
 use Rattle.reader.proofs.check.all_small.Goals as goal
 
 pub loop-k-init : goal.loop-k-init

@@ -2,10 +2,8 @@
 -- Assumes nothing.
 use Prim.Native.Nat.{◌-◌, ◌≤◌}
 use mathlib.Core.Path.{◌≡◌}
-use Rattle.std.proofs.Common.{rules}
 use lib.ListN.{length}
-use Rattle.laws.specs.All.{all_none, all_end}
-use Rattle.reader.specs.Early.{small_to, small_next}
+use Rattle.reader.specs.Early.{small_to}
 use Rattle.reader.proofs.check.all_small.Given as goal
 
 abbrev pub invariant-loop-k : goal.invariant-loop-k

@@ -1,11 +1,7 @@
 -- `first_above` finds the first byte above 1.
 -- Assumes nothing.
-use Prim.Native.Nat.{◌-◌, ◌≤◌}
-use mathlib.Core.Path.{◌≡◌}
 use Rattle.std.proofs.Common.{rules}
-use lib.ListN.{length}
-use Rattle.standard.specs.Read.{first_above}
-use Rattle.reader.specs.Early.{above_from, above_start, above_found, above_next, above_end, small_all}
+use Rattle.reader.specs.Early.{above_start, above_found, above_next, above_end, small_all}
 use Rattle.reader.proofs.check.first_above.Goals as goal
 
 pub returns-then-all_small : goal.returns-then-all_small

@@ -2,10 +2,9 @@
 -- Assumes nothing.
 use Prim.Native.Nat.{◌-◌, ◌≤◌}
 use mathlib.Core.Path.{◌≡◌}
-use Rattle.std.proofs.Common.{rules}
 use lib.ListN.{length}
 use Rattle.standard.specs.Read.{first_above}
-use Rattle.reader.specs.Early.{above_from, above_start, above_found, above_next, above_end, small_all}
+use Rattle.reader.specs.Early.{above_from}
 use Rattle.reader.proofs.check.first_above.Given as goal
 
 abbrev pub invariant-loop-i : goal.invariant-loop-i
