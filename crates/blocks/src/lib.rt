@@ -9,7 +9,7 @@ ghost use Rattle.standard.specs.Sizes.{raw_codewords, data_codewords};
 ghost use Rattle.standard.specs.Field.{remainder};
 ghost use Rattle.standard.specs.Blocks.{all_words};
 ghost use Rattle.field.specs.Multiples.{Tables};
-ghost use Rattle.types.specs.Numbers.{IsVersion, level_of};
+ghost use Rattle.types.specs.Numbers.{level_of};
 ghost use Rattle.blocks.specs.Shape.{Shape, data_in};
 ghost use Rattle.blocks.specs.Undo.{data_of};
 ghost use Rattle.blocks.specs.Checks.{length_in, rests_in, checks_in};
@@ -21,9 +21,8 @@ use types::{QrCodeEcc, Version};
 // Puts into `out` all codewords: the given data codewords with the error correction codewords
 // of each block, interleaved.
 pub fn add_ecc_and_interleave(ver: Version, ecl: QrCodeEcc, data: &[u8], out: &mut [u8])
-    requires version { IsVersion ver }
-    requires data_len { (length «data».now ≡ data_codewords ver.0 (level_of ecl)) × (length out.old ≡ raw_codewords ver.0) }
-    ensures { out.new ≡ all_words ver.0 (level_of ecl) «data».now }
+    requires data_len { (length «data».now ≡ data_codewords ver.value (level_of ecl)) × (length out.old ≡ raw_codewords ver.value) }
+    ensures { out.new ≡ all_words ver.value (level_of ecl) «data».now }
 {
     let s = share_out(ver, ecl);
     let mut checks: [u8; 2430] = [0; 2430];
@@ -41,9 +40,8 @@ pub fn add_ecc_and_interleave(ver: Version, ecl: QrCodeEcc, data: &[u8], out: &m
 
 // Puts into `out` the data codewords, taken out of all codewords: the way back.
 pub fn data_words(ver: Version, ecl: QrCodeEcc, all: &[u8], out: &mut [u8])
-    requires version { IsVersion ver }
-    requires all_len { (length all.now ≡ raw_codewords ver.0) × (length out.old ≡ data_codewords ver.0 (level_of ecl)) }
-    ensures { out.new ≡ data_of ver.0 (level_of ecl) all.now }
+    requires all_len { (length all.now ≡ raw_codewords ver.value) × (length out.old ≡ data_codewords ver.value (level_of ecl)) }
+    ensures { out.new ≡ data_of ver.value (level_of ecl) all.now }
 {
     let s = share_out(ver, ecl);
     interleave::take_data(all, s.numblocks, s.shortdatlen, s.numshortblocks, out);
@@ -60,8 +58,7 @@ struct Shares {
 
 // Calculates these numbers.
 fn share_out(ver: Version, ecl: QrCodeEcc) -> Shares
-    requires { IsVersion ver }
-    ensures { SharedOut ver.0 (level_of ecl) result.numblocks result.shortdatlen result.numshortblocks result.blockecclen }
+    ensures { SharedOut ver.value (level_of ecl) result.numblocks result.shortdatlen result.numshortblocks result.blockecclen }
 {
     let numblocks = capacity::num_error_correction_blocks(ver, ecl);
     let blockecclen = capacity::ecc_codewords_per_block(ver, ecl);

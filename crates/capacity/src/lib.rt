@@ -4,7 +4,7 @@
 ghost use Rattle.std.specs.Prelude.{◌≡◌, ◌++◌, ◌+◌, ◌-◌, ◌≤◌, length, replicate};
 ghost use Rattle.standard.specs.Sizes.{raw_modules, check_bytes, blocks, data_codewords};
 ghost use Rattle.standard.specs.Patterns.{alignment_step, alignment};
-ghost use Rattle.types.specs.Numbers.{IsVersion, level_of};
+ghost use Rattle.types.specs.Numbers.{level_of};
 
 mod tables;
 
@@ -20,7 +20,7 @@ fn wide(x: u8) -> usize
 
 // Returns the version's number.
 fn number(ver: Version) -> usize
-    ensures { result ≡ ver.0 }
+    ensures { result ≡ ver.value }
 {
     wide(ver.value())
 }
@@ -43,16 +43,14 @@ fn table_blocks(l: usize, v: usize) -> usize
 
 // Returns the number of check bytes in each block.
 pub fn ecc_codewords_per_block(ver: Version, ecl: QrCodeEcc) -> usize
-    requires { IsVersion ver }
-    ensures { result ≡ check_bytes ver.0 (level_of ecl) }
+    ensures { result ≡ check_bytes ver.value (level_of ecl) }
 {
     table_check(ecl.ordinal(), number(ver))
 }
 
 // Returns the number of blocks.
 pub fn num_error_correction_blocks(ver: Version, ecl: QrCodeEcc) -> usize
-    requires { IsVersion ver }
-    ensures { result ≡ blocks ver.0 (level_of ecl) }
+    ensures { result ≡ blocks ver.value (level_of ecl) }
 {
     table_blocks(ecl.ordinal(), number(ver))
 }
@@ -61,8 +59,7 @@ pub fn num_error_correction_blocks(ver: Version, ecl: QrCodeEcc) -> usize
 // all function modules are excluded. This includes remainder bits, so it might not be a multiple of 8.
 // The result is in the range [208, 29648].
 pub fn get_num_raw_data_modules(ver: Version) -> usize
-    requires { IsVersion ver }
-    ensures { result ≡ raw_modules ver.0 }
+    ensures { result ≡ raw_modules ver.value }
 {
     let v = number(ver);
     let result = (16 * v + 128) * v + 64;
@@ -80,8 +77,7 @@ pub fn get_num_raw_data_modules(ver: Version) -> usize
 // Returns the number of 8-bit data (i.e. not error correction) codewords contained in any
 // QR Code of the given version number and error correction level, with remainder bits discarded.
 pub fn get_num_data_codewords(ver: Version, ecl: QrCodeEcc) -> usize
-    requires { IsVersion ver }
-    ensures { result ≡ data_codewords ver.0 (level_of ecl) }
+    ensures { result ≡ data_codewords ver.value (level_of ecl) }
 {
     get_num_raw_data_modules(ver) / 8
         - ecc_codewords_per_block(ver, ecl) * num_error_correction_blocks(ver, ecl)
@@ -89,8 +85,7 @@ pub fn get_num_data_codewords(ver: Version, ecl: QrCodeEcc) -> usize
 
 // Returns how far alignment positions are apart.
 fn alignment_step(ver: Version) -> usize
-    requires { IsVersion ver }
-    ensures { result ≡ alignment_step ver.0 }
+    ensures { result ≡ alignment_step ver.value }
 {
     let v = number(ver);
     if v == 32 {
@@ -110,8 +105,7 @@ pub struct Positions {
 // Returns an ascending list of positions of alignment patterns for this version number.
 // Each position is in the range [0,177), and are used on both the x and y axes.
 pub fn get_alignment_pattern_positions(ver: Version) -> Positions
-    requires { IsVersion ver }
-    ensures { (result.count ≡ length (alignment ver.0)) × (result.at ≡ alignment ver.0 ++ replicate (7 - result.count) 0) }
+    ensures { (result.count ≡ length (alignment ver.value)) × (result.at ≡ alignment ver.value ++ replicate (7 - result.count) 0) }
 {
     let v = number(ver);
     let mut result: [usize; 7] = [0; 7];

@@ -8,7 +8,7 @@ ghost use Rattle.standard.specs.Grid.{content, grid as grid_of};
 ghost use Rattle.standard.specs.Penalty.{penalty};
 ghost use Rattle.standard.specs.Choice.{chosen};
 ghost use Rattle.laws.specs.Grid.{Square, paint};
-ghost use Rattle.types.specs.Numbers.{level_of, IsVersion};
+ghost use Rattle.types.specs.Numbers.{level_of};
 ghost use Rattle.patterns.specs.Layers.{formats};
 ghost use Rattle.penalty.specs.Lines.{colours};
 ghost use Rattle.packed.specs.Stored.{HeldRows, HeldColumns};
@@ -25,10 +25,10 @@ fn score_mask(
     ecl: QrCodeEcc,
     i: u8,
 ) -> u32
-    requires square { Square grid.old (side ver.0) }
-    requires version { IsVersion ver × (i < 8) }
-    requires held_rows { HeldRows (side ver.0) grid.old rows.now × HeldColumns (side ver.0) grid.old columns.now }
-    ensures { (result ≡ penalty (side ver.0) (colours (candidate ver.0 (level_of ecl) i grid.old))) × (grid.new ≡ paint (side ver.0) (formats (side ver.0) (format_word (level_of ecl) i)) grid.old) }
+    requires square { Square grid.old (side ver.value) }
+    requires version { i < 8 }
+    requires held_rows { HeldRows (side ver.value) grid.old rows.now × HeldColumns (side ver.value) grid.old columns.now }
+    ensures { (result ≡ penalty (side ver.value) (colours (candidate ver.value (level_of ecl) i grid.old))) × (grid.new ≡ paint (side ver.value) (formats (side ver.value) (format_word (level_of ecl) i)) grid.old) }
 {
     patterns::draw_format_bits(grid, ver, ecl, types::mask_at(i));
     packed::get_penalty_score(grid, rows, columns, patterns::size_of(ver), i as usize)
@@ -36,10 +36,9 @@ fn score_mask(
 
 // Automatically chooses the best mask of a grid that is drawn without one and whose rows and columns are packed.
 fn choose_best(grid: &mut [u8], rows: &[u64], columns: &[u64], ver: Version, ecl: QrCodeEcc) -> Mask
-    requires square { Square grid.old (side ver.0) }
-    requires version { IsVersion ver }
-    requires held_rows { HeldRows (side ver.0) grid.old rows.now × HeldColumns (side ver.0) grid.old columns.now }
-    ensures { Chooses ver.0 (level_of ecl) 8 grid.old grid.new result.0 }
+    requires square { Square grid.old (side ver.value) }
+    requires held_rows { HeldRows (side ver.value) grid.old rows.now × HeldColumns (side ver.value) grid.old columns.now }
+    ensures { Chooses ver.value (level_of ecl) 8 grid.old grid.new result.value }
 {
     let mut msk: u8 = 0;
     let mut minpenalty: u32 = 0xFFFF_FFFF;
@@ -63,9 +62,9 @@ fn choose_packed(
     ver: Version,
     ecl: QrCodeEcc,
 ) -> Mask
-    requires square { Square grid.old (side ver.0) }
-    requires version { IsVersion ver × (length rows.old ≡ 6 * side ver.0) × (length columns.old ≡ 6 * side ver.0) }
-    ensures { Chooses ver.0 (level_of ecl) 8 grid.old grid.new result.0 }
+    requires square { Square grid.old (side ver.value) }
+    requires version { (length rows.old ≡ 6 * side ver.value) × (length columns.old ≡ 6 * side ver.value) }
+    ensures { Chooses ver.value (level_of ecl) 8 grid.old grid.new result.value }
 {
     let size = patterns::size_of(ver);
     packed::pack_rows(grid, size, rows);
@@ -75,9 +74,8 @@ fn choose_packed(
 
 // Automatically chooses the best mask of a grid that is drawn without one.
 fn choose_mask(grid: &mut [u8], ver: Version, ecl: QrCodeEcc) -> Mask
-    requires square { Square grid.old (side ver.0) }
-    requires version { IsVersion ver }
-    ensures { Chooses ver.0 (level_of ecl) 8 grid.old grid.new result.0 }
+    requires square { Square grid.old (side ver.value) }
+    ensures { Chooses ver.value (level_of ecl) 8 grid.old grid.new result.value }
 {
     let mut rows = [0u64; 1062];
     let mut columns = [0u64; 1062];
@@ -87,9 +85,9 @@ fn choose_mask(grid: &mut [u8], ver: Version, ecl: QrCodeEcc) -> Mask
 
 // The mask numbered msk or, where that is 8, the automatic choice.
 fn mask_for(grid: &mut [u8], ver: Version, ecl: QrCodeEcc, msk: u8) -> Mask
-    requires square { Square grid.old (side ver.0) }
-    requires version { IsVersion ver × (msk ≤ 8) }
-    ensures { Chooses ver.0 (level_of ecl) msk grid.old grid.new result.0 }
+    requires square { Square grid.old (side ver.value) }
+    requires version { msk ≤ 8 }
+    ensures { Chooses ver.value (level_of ecl) msk grid.old grid.new result.value }
 {
     if msk < 8 {
         return types::mask_at(msk);
@@ -99,9 +97,9 @@ fn mask_for(grid: &mut [u8], ver: Version, ecl: QrCodeEcc, msk: u8) -> Mask
 
 // Draws the whole grid of codewords, with the mask numbered msk or, where that is 8, with the automatic choice.
 pub fn draw_masked(grid: &mut [u8], ver: Version, ecl: QrCodeEcc, msk: u8, codewords: &[u8]) -> Mask
-    requires square { Square grid.old (side ver.0) }
-    requires version { IsVersion ver × (msk ≤ 8) × (length codewords.now ≤ 4096) }
-    ensures { (result.0 ≡ chosen ver.0 (level_of ecl) msk (content ver.0 codewords.now)) × (grid.new ≡ grid_of ver.0 (level_of ecl) result.0 (content ver.0 codewords.now)) }
+    requires square { Square grid.old (side ver.value) }
+    requires version { (msk ≤ 8) × (length codewords.now ≤ 4096) }
+    ensures { (result.value ≡ chosen ver.value (level_of ecl) msk (content ver.value codewords.now)) × (grid.new ≡ grid_of ver.value (level_of ecl) result.value (content ver.value codewords.now)) }
 {
     modules::draw_modules(grid, ver, ecl, types::mask_at(0), codewords);
     let mask = mask_for(grid, ver, ecl, msk);

@@ -9,7 +9,7 @@ ghost use Rattle.standard.specs.Grid.{content, grid as grid_of};
 ghost use Rattle.standard.specs.Choice.{chosen};
 ghost use Rattle.standard.specs.Encode.{draw as drawing};
 ghost use Rattle.laws.specs.Grid.{Square};
-ghost use Rattle.types.specs.Numbers.{IsVersion, level_of};
+ghost use Rattle.types.specs.Numbers.{level_of};
 ghost use Rattle.segments.specs.Records.{parts_of};
 ghost use Rattle.encoder.specs.Answers.{answer_of};
 ghost use Rattle.encoder.specs.Drawing.{zeros};
@@ -41,9 +41,9 @@ fn draw_with(
     all: &mut [u8],
     grid: &mut [u8],
 ) -> Mask
-    requires version { IsVersion ver × (msk ≤ 8) × (length «data».now ≡ data_codewords ver.0 (level_of ecl)) }
-    requires all_len { (length all.old ≡ raw_codewords ver.0) × (raw_codewords ver.0 ≤ 4096) × Square grid.old (side ver.0) }
-    ensures { (result.0 ≡ chosen ver.0 (level_of ecl) msk (content ver.0 (all_words ver.0 (level_of ecl) «data».now))) × (grid.new ≡ grid_of ver.0 (level_of ecl) result.0 (content ver.0 (all_words ver.0 (level_of ecl) «data».now))) }
+    requires version { (msk ≤ 8) × (length «data».now ≡ data_codewords ver.value (level_of ecl)) }
+    requires all_len { (length all.old ≡ raw_codewords ver.value) × (raw_codewords ver.value ≤ 4096) × Square grid.old (side ver.value) }
+    ensures { (result.value ≡ chosen ver.value (level_of ecl) msk (content ver.value (all_words ver.value (level_of ecl) «data».now))) × (grid.new ≡ grid_of ver.value (level_of ecl) result.value (content ver.value (all_words ver.value (level_of ecl) «data».now))) }
 {
     blocks::add_ecc_and_interleave(ver, ecl, data, all);
     choice::draw_masked(grid, ver, ecl, msk, all)
@@ -51,9 +51,9 @@ fn draw_with(
 
 // Draws the label of data codewords into a grid of just its size, with the mask numbered msk or, where that is 8, the automatic choice.
 fn draw_words(ver: Version, ecl: QrCodeEcc, msk: u8, data: &[u8], grid: &mut [u8]) -> Mask
-    requires version { IsVersion ver × (msk ≤ 8) × (length «data».now ≡ data_codewords ver.0 (level_of ecl)) }
-    requires square { Square grid.old (side ver.0) }
-    ensures { (result.0 ≡ chosen ver.0 (level_of ecl) msk (content ver.0 (all_words ver.0 (level_of ecl) «data».now))) × (grid.new ≡ grid_of ver.0 (level_of ecl) result.0 (content ver.0 (all_words ver.0 (level_of ecl) «data».now))) }
+    requires version { (msk ≤ 8) × (length «data».now ≡ data_codewords ver.value (level_of ecl)) }
+    requires square { Square grid.old (side ver.value) }
+    ensures { (result.value ≡ chosen ver.value (level_of ecl) msk (content ver.value (all_words ver.value (level_of ecl) «data».now))) × (grid.new ≡ grid_of ver.value (level_of ecl) result.value (content ver.value (all_words ver.value (level_of ecl) «data».now))) }
 {
     let mut all: [u8; 3706] = [0; 3706];
     let n = capacity::get_num_raw_data_modules(ver) / 8;
@@ -69,8 +69,8 @@ pub(crate) fn draw(
     grid: &mut [u8],
     scratch: &mut [u8],
 ) -> Outcome
-    requires { IsVersion ver × (msk ≤ 8) × (length «data».now ≡ data_codewords ver.0 (level_of ecl)) }
-    ensures { record { answer = answer_of result; grid = grid.new; scratch = scratch.new } ≡ drawing ver.0 (level_of ecl) msk «data».now grid.old scratch.old }
+    requires { (msk ≤ 8) × (length «data».now ≡ data_codewords ver.value (level_of ecl)) }
+    ensures { record { answer = answer_of result; grid = grid.new; scratch = scratch.new } ≡ drawing ver.value (level_of ecl) msk «data».now grid.old scratch.old }
 {
     let size = patterns::size_of(ver);
     let area = size * size;
@@ -100,9 +100,9 @@ fn draw_plan_with(
     grid: &mut [u8],
     scratch: &mut [u8],
 ) -> Outcome
-    requires version { IsVersion ver × (msk ≤ 8) × («data».old ≡ replicate (data_codewords ver.0 (level_of ecl)) 0) }
-    requires t { T (every (good_part text.now) (parts_of records.now)) × T (fits (level_of ecl) (segments_of text.now (parts_of records.now)) ver.0) }
-    ensures { record { answer = answer_of result; grid = grid.new; scratch = scratch.new } ≡ drawing ver.0 (level_of ecl) msk (data_words ver.0 (level_of ecl) (segments_of text.now (parts_of records.now))) grid.old scratch.old }
+    requires version { (msk ≤ 8) × («data».old ≡ replicate (data_codewords ver.value (level_of ecl)) 0) }
+    requires t { T (every (good_part text.now) (parts_of records.now)) × T (fits (level_of ecl) (segments_of text.now (parts_of records.now)) ver.value) }
+    ensures { record { answer = answer_of result; grid = grid.new; scratch = scratch.new } ≡ drawing ver.value (level_of ecl) msk (data_words ver.value (level_of ecl) (segments_of text.now (parts_of records.now))) grid.old scratch.old }
 {
     segments::codewords::data_codewords(data, ver, ecl, text, records);
     draw(ver, ecl, msk, data, grid, scratch)
@@ -118,9 +118,9 @@ pub(crate) fn draw_plan(
     grid: &mut [u8],
     scratch: &mut [u8],
 ) -> Outcome
-    requires version { IsVersion ver × (msk ≤ 8) }
-    requires t { T (every (good_part text.now) (parts_of records.now)) × T (fits (level_of ecl) (segments_of text.now (parts_of records.now)) ver.0) }
-    ensures { record { answer = answer_of result; grid = grid.new; scratch = scratch.new } ≡ drawing ver.0 (level_of ecl) msk (data_words ver.0 (level_of ecl) (segments_of text.now (parts_of records.now))) grid.old scratch.old }
+    requires version { msk ≤ 8 }
+    requires t { T (every (good_part text.now) (parts_of records.now)) × T (fits (level_of ecl) (segments_of text.now (parts_of records.now)) ver.value) }
+    ensures { record { answer = answer_of result; grid = grid.new; scratch = scratch.new } ≡ drawing ver.value (level_of ecl) msk (data_words ver.value (level_of ecl) (segments_of text.now (parts_of records.now))) grid.old scratch.old }
 {
     let mut data: [u8; 2956] = [0; 2956];
     let n = capacity::get_num_data_codewords(ver, ecl);

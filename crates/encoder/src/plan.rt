@@ -4,7 +4,7 @@ ghost use Rattle.standard.specs.Numbers.{every};
 ghost use Rattle.standard.specs.Sizes.{capacity};
 ghost use Rattle.standard.specs.Segments.{segments_of, good_part};
 ghost use Rattle.standard.specs.Plan.{boosted as boosted_to, plan_fit, plan as planned};
-ghost use Rattle.types.specs.Numbers.{IsVersion, level_of};
+ghost use Rattle.types.specs.Numbers.{level_of};
 ghost use Rattle.segments.specs.Records.{parts_of};
 ghost use Rattle.encoder.specs.Answers.{plan_of};
 ghost use Rattle.encoder.specs.Fitting.{fit_at};
@@ -35,16 +35,15 @@ enum Fit {
 
 // Returns the data bits that the given version holds at the given level.
 fn capacity_bits(ver: Version, ecl: QrCodeEcc) -> usize
-    requires { IsVersion ver }
-    ensures { result ≡ capacity ver.0 (level_of ecl) }
+    ensures { result ≡ capacity ver.value (level_of ecl) }
 {
     8 * capacity::get_num_data_codewords(ver, ecl)
 }
 
 // Tests one version.
 fn fit_at(text: &[u8], records: &[u64], ver: Version, ecl: QrCodeEcc) -> Fit
-    requires { IsVersion ver × (length records.now ≤ 8195) × T (every (good_part text.now) (parts_of records.now)) }
-    ensures { result ≡ fit_at (level_of ecl) (segments_of text.now (parts_of records.now)) ver.0 }
+    requires { (length records.now ≤ 8195) × T (every (good_part text.now) (parts_of records.now)) }
+    ensures { result ≡ fit_at (level_of ecl) (segments_of text.now (parts_of records.now)) ver.value }
 {
     let datacapacitybits = capacity_bits(ver, ecl);
     let dataused = segments::records::get_total_bits(text, records, ver);
@@ -65,8 +64,8 @@ fn fit_at(text: &[u8], records: &[u64], ver: Version, ecl: QrCodeEcc) -> Fit
 
 // Increases the error correction level while the data still fits in the current version number.
 fn boosted(ver: Version, level: u8, datausedbits: usize) -> u8
-    requires { IsVersion ver × (level ≤ 3) × (datausedbits ≤ capacity ver.0 level) }
-    ensures { (result ≡ boosted_to ver.0 level datausedbits) × (result ≤ 3) }
+    requires { (level ≤ 3) × (datausedbits ≤ capacity ver.value level) }
+    ensures { (result ≡ boosted_to ver.value level datausedbits) × (result ≤ 3) }
 {
     if datausedbits <= capacity_bits(ver, QrCodeEcc::High) {
         return 3;
@@ -88,8 +87,8 @@ fn boosted(ver: Version, level: u8, datausedbits: usize) -> u8
 
 // The level that the data get: the one asked for, or the highest that still holds them.
 fn final_level(ver: Version, level: u8, boostecl: bool, datausedbits: usize) -> u8
-    requires { IsVersion ver × (level ≤ 3) × (datausedbits ≤ capacity ver.0 level) }
-    ensures { (result ≡ final_level ver.0 level boostecl datausedbits) × (result ≤ 3) }
+    requires { (level ≤ 3) × (datausedbits ≤ capacity ver.value level) }
+    ensures { (result ≡ final_level ver.value level boostecl datausedbits) × (result ≤ 3) }
 {
     if boostecl {
         return boosted(ver, level, datausedbits);

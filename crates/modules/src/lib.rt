@@ -12,7 +12,7 @@ ghost use Rattle.standard.specs.Path.{right, height};
 ghost use Rattle.standard.specs.Grid.{content, grid as grid_of};
 ghost use Rattle.laws.specs.Grid.{Square};
 ghost use Rattle.laws.specs.Each.{each};
-ghost use Rattle.types.specs.Numbers.{level_of, IsVersion, IsMask};
+ghost use Rattle.types.specs.Numbers.{level_of};
 ghost use Rattle.modules.specs.Zigzag.{bit_of, Laid, Laid.laid, lay_at, walk, drawn};
 ghost use Rattle.modules.specs.Work.{work};
 
@@ -105,9 +105,9 @@ fn draw_bits(grid: &mut [u8], size: usize, codewords: &[u8])
 // data area of this QR Code. Function modules need to be marked off before this is called.
 // Remainder modules (0 to 7) are left unchanged.
 fn draw_codewords(grid: &mut [u8], ver: Version, codewords: &[u8])
-    requires square { Square grid.old (side ver.0) }
-    requires version { IsVersion ver × (length codewords.now ≤ 4096) }
-    ensures { grid.new ≡ drawn (side ver.0) codewords.now grid.old }
+    requires square { Square grid.old (side ver.value) }
+    requires version { length codewords.now ≤ 4096 }
+    ensures { grid.new ≡ drawn (side ver.value) codewords.now grid.old }
 {
     let size = patterns::size_of(ver);
     draw_bits(grid, size, codewords);
@@ -135,9 +135,9 @@ pub fn finish(grid: &mut [u8])
 
 // Draws function modules and codewords, without a mask. Any mask will do for the format bits where they are drawn again.
 pub fn draw_modules(grid: &mut [u8], ver: Version, ecl: QrCodeEcc, mask: Mask, codewords: &[u8])
-    requires square { Square grid.old (side ver.0) }
-    requires version { IsVersion ver × IsMask mask × (length codewords.now ≤ 4096) }
-    ensures { grid.new ≡ work ver.0 (format_word (level_of ecl) mask.0) (content ver.0 codewords.now) }
+    requires square { Square grid.old (side ver.value) }
+    requires version { length codewords.now ≤ 4096 }
+    ensures { grid.new ≡ work ver.value (format_word (level_of ecl) mask.value) (content ver.value codewords.now) }
 {
     clear(grid);
     patterns::draw_function_patterns(grid, ver, ecl, mask);
@@ -146,9 +146,9 @@ pub fn draw_modules(grid: &mut [u8], ver: Version, ecl: QrCodeEcc, mask: Mask, c
 
 // Draws the whole grid: function modules and codewords, the mask, the format bits; and leaves the colors.
 pub fn draw_label(grid: &mut [u8], ver: Version, ecl: QrCodeEcc, mask: Mask, codewords: &[u8])
-    requires square { Square grid.old (side ver.0) }
-    requires version { IsVersion ver × IsMask mask × (length codewords.now ≤ 4096) }
-    ensures { grid.new ≡ grid_of ver.0 (level_of ecl) mask.0 (content ver.0 codewords.now) }
+    requires square { Square grid.old (side ver.value) }
+    requires version { length codewords.now ≤ 4096 }
+    ensures { grid.new ≡ grid_of ver.value (level_of ecl) mask.value (content ver.value codewords.now) }
 {
     draw_modules(grid, ver, ecl, mask, codewords);
     apply_mask(grid, ver, mask);

@@ -5,7 +5,6 @@ ghost use Rattle.standard.specs.Sizes.{side};
 ghost use Rattle.standard.specs.Masks.{inverts};
 ghost use Rattle.laws.specs.Grid.{Square, paint};
 ghost use Rattle.laws.specs.Each.{each, each_done};
-ghost use Rattle.types.specs.Numbers.{IsVersion, IsMask};
 ghost use Rattle.modules.specs.Mask.{masked};
 ghost use Rattle.modules.specs.MaskRows.{on_row, again, in_row, inverted};
 
@@ -128,9 +127,8 @@ fn mask_bands(grid: &mut [u8], rows: &[u8])
 // the same mask value a second time will undo the mask. A final well-formed
 // QR Code needs exactly one (not zero, two, etc.) mask applied.
 pub fn apply_mask(grid: &mut [u8], ver: Version, mask: Mask)
-    requires square { Square grid.old (side ver.0) }
-    requires version { IsVersion ver × IsMask mask }
-    ensures { grid.new ≡ paint (side ver.0) (masked mask.0) grid.old }
+    requires square { Square grid.old (side ver.value) }
+    ensures { grid.new ≡ paint (side ver.value) (masked mask.value) grid.old }
 {
     let size = patterns::size_of(ver);
     let n = 12 * size;

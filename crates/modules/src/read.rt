@@ -2,7 +2,7 @@
 ghost use Rattle.std.specs.Prelude.{◌≡◌, cond, ◌+◌, ◌-◌, ◌*◌, ◌/◌, ◌<◌, ◌≤◌, ltb, length};
 ghost use Rattle.standard.specs.Sizes.{side};
 ghost use Rattle.laws.specs.Grid.{Square};
-ghost use Rattle.types.specs.Numbers.{level_of, IsVersion, IsMask};
+ghost use Rattle.types.specs.Numbers.{level_of};
 ghost use Rattle.modules.specs.Zigzag.{Laid, Laid.laid, read_at, walk, collected};
 ghost use Rattle.standard.specs.Format.{level_bits};
 ghost use Rattle.modules.specs.FormatBack.{format_bit, format_data, read_level, read_mask};
@@ -52,9 +52,8 @@ fn level_of(b: u8) -> QrCodeEcc
 
 // Reads the error correction level.
 pub fn read_level(grid: &[u8], ver: Version) -> QrCodeEcc
-    requires square { Square grid.now (side ver.0) }
-    requires version { IsVersion ver }
-    ensures { level_of result ≡ read_level (side ver.0) grid.now }
+    requires square { Square grid.now (side ver.value) }
+    ensures { level_of result ≡ read_level (side ver.value) grid.now }
 {
     let size = patterns::size_of(ver);
     let bits = format_data(grid, size);
@@ -63,9 +62,8 @@ pub fn read_level(grid: &[u8], ver: Version) -> QrCodeEcc
 
 // Reads the mask's number, which is in the range [0, 7].
 pub fn read_mask(grid: &[u8], ver: Version) -> u8
-    requires square { Square grid.now (side ver.0) }
-    requires version { IsVersion ver }
-    ensures { (result ≡ read_mask (side ver.0) grid.now) × (result ≤ 7) }
+    requires square { Square grid.now (side ver.value) }
+    ensures { (result ≡ read_mask (side ver.value) grid.now) × (result ≤ 7) }
 {
     let size = patterns::size_of(ver);
     format_data(grid, size) % 8
@@ -140,10 +138,9 @@ fn copy_data(grid: &[u8], work: &mut [u8])
 
 // The data modules of grid without the mask, between function modules, in work.
 fn unmask(grid: &[u8], work: &mut [u8], ver: Version, ecl: QrCodeEcc, mask: Mask)
-    requires square { Square grid.now (side ver.0) }
-    requires square_2 { Square work.old (side ver.0) }
-    requires version { IsVersion ver × IsMask mask }
-    ensures { work.new ≡ read_grid ver.0 (level_of ecl) mask.0 grid.now }
+    requires square { Square grid.now (side ver.value) }
+    requires square_2 { Square work.old (side ver.value) }
+    ensures { work.new ≡ read_grid ver.value (level_of ecl) mask.value grid.now }
 {
     super::clear(work);
     patterns::draw_function_patterns(work, ver, ecl, mask);
@@ -160,11 +157,11 @@ pub fn read_codewords(
     mask: Mask,
     out: &mut [u8],
 )
-    requires square { Square grid.now (side ver.0) }
-    requires square_2 { Square work.old (side ver.0) }
-    requires version { IsVersion ver × IsMask mask × (length out.old ≤ 4096) }
-    ensures out_after { out.new ≡ read_words ver.0 (level_of ecl) mask.0 grid.now out.old }
-    ensures work_after { work.new ≡ read_grid ver.0 (level_of ecl) mask.0 grid.now }
+    requires square { Square grid.now (side ver.value) }
+    requires square_2 { Square work.old (side ver.value) }
+    requires version { length out.old ≤ 4096 }
+    ensures out_after { out.new ≡ read_words ver.value (level_of ecl) mask.value grid.now out.old }
+    ensures work_after { work.new ≡ read_grid ver.value (level_of ecl) mask.value grid.now }
 {
     unmask(grid, work, ver, ecl, mask);
     let size = patterns::size_of(ver);

@@ -9,7 +9,6 @@ mod write; // write.rt: characters, written
 ghost use Rattle.std.specs.Prelude.{◌≡◌, [], ◌∷◌, ◌+◌, ◌*◌, ◌≤◌, length};
 ghost use Rattle.std.proofs.Math.Seq.{paste};
 ghost use Rattle.standard.specs.Bits.{unpack};
-ghost use Rattle.types.specs.Numbers.{IsVersion};
 ghost use Rattle.parser.specs.Tail.{tail_at};
 ghost use Rattle.parser.specs.Parse.{ended};
 ghost use Rattle.parser.specs.Theorems.{parse};
@@ -79,8 +78,8 @@ fn ended_at(buf: &[u8], at: usize, records: usize, text: usize) -> Counted
 
 // The counting pass: all of the data, what follows the segments too.
 pub fn count_all(buf: &[u8], ver: Version) -> Counted
-    requires { IsVersion ver × (length buf.now ≤ 4096) }
-    ensures { result ≡ counted (parse ver.0 buf.now) }
+    requires { length buf.now ≤ 4096 }
+    ensures { result ≡ counted (parse ver.value buf.now) }
 {
     let mut at: usize = 0;
     let mut records: usize = 0;
@@ -134,8 +133,8 @@ fn put_record(records: &mut [u64], i: usize, kind: u8, text: usize, count: usize
 // The writing pass, over data that have been counted: characters and records, from the start of each slice on.
 // A record is four numbers: kind, start, length, assign.
 pub fn write_all(buf: &[u8], ver: Version, text: &mut [u8], records: &mut [u64])
-    requires { IsVersion ver × (length buf.now ≤ 4096) × Room (counted (parse ver.0 buf.now)) (length text.old) (length records.old) }
-    ensures { (text.new ≡ text_after (parse ver.0 buf.now) text.old) × (records.new ≡ records_after (parse ver.0 buf.now) records.old) }
+    requires { (length buf.now ≤ 4096) × Room (counted (parse ver.value buf.now)) (length text.old) (length records.old) }
+    ensures { (text.new ≡ text_after (parse ver.value buf.now) text.old) × (records.new ≡ records_after (parse ver.value buf.now) records.old) }
 {
     let mut at: usize = 0;
     let mut r: usize = 0;

@@ -1,7 +1,6 @@
 // One segment: what stands at a bit of the data.
 ghost use Rattle.std.specs.Prelude.{◌≡◌, ◌+◌, ◌*◌, ◌<◌, ◌≤◌, length};
 ghost use Rattle.standard.specs.Bits.{unpack};
-ghost use Rattle.types.specs.Numbers.{IsVersion};
 ghost use Rattle.segments.specs.Kinds.{size};
 ghost use Rattle.parser.specs.Runs.{run_end};
 ghost use Rattle.parser.specs.Eci.{eci_at};
@@ -127,8 +126,8 @@ fn eci_step(buf: &[u8], at: usize) -> Step
 
 // What stands at bit at.
 pub fn step_at(buf: &[u8], ver: Version, at: usize) -> Step
-    requires { IsVersion ver × (length buf.now ≤ 4096) × (at ≤ 8 * length buf.now) }
-    ensures { result ≡ step_at ver.0 (unpack buf.now) at }
+    requires { (length buf.now ≤ 4096) × (at ≤ 8 * length buf.now) }
+    ensures { result ≡ step_at ver.value (unpack buf.now) at }
 {
     let total = buf.len() * 8;
     if total < at + 4 {

@@ -4,7 +4,6 @@ ghost use Rattle.standard.specs.Numbers.{apart};
 ghost use Rattle.standard.specs.Sizes.{side, centres};
 ghost use Rattle.laws.specs.Grid.{Square, paint};
 ghost use Rattle.laws.specs.Box.{box_cell};
-ghost use Rattle.types.specs.Numbers.{IsVersion};
 ghost use Rattle.patterns.specs.Layers.{alignments};
 ghost use Rattle.patterns.specs.Shapes.{alignment_square};
 ghost use Rattle.patterns.specs.Centres.{centre, corner, Positioned};
@@ -87,9 +86,8 @@ fn draw_alignments(grid: &mut [u8], v: usize, alignpatpos: [usize; 7])
 
 // Draws the alignment patterns of the given version.
 pub fn draw_alignment_patterns(grid: &mut [u8], ver: Version)
-    requires square { Square grid.old (side ver.0) }
-    requires version { IsVersion ver }
-    ensures { grid.new ≡ paint (side ver.0) (alignments ver.0) grid.old }
+    requires square { Square grid.old (side ver.value) }
+    ensures { grid.new ≡ paint (side ver.value) (alignments ver.value) grid.old }
 {
     let positions = capacity::get_alignment_pattern_positions(ver);
     let alignpatpos = positions.at;

@@ -4,7 +4,7 @@ ghost use Rattle.standard.specs.Sizes.{side};
 ghost use Rattle.standard.specs.Format.{format_word, version_word};
 ghost use Rattle.laws.specs.Grid.{Square, paint};
 ghost use Rattle.laws.specs.Dots.{dots};
-ghost use Rattle.types.specs.Numbers.{level_of, IsVersion, IsMask};
+ghost use Rattle.types.specs.Numbers.{level_of};
 ghost use Rattle.patterns.specs.Layers.{formats, versions};
 ghost use Rattle.patterns.specs.FormatPlaces.{first_x, first_y, second_x, second_y, word_bit};
 
@@ -12,8 +12,7 @@ use types::{Mask, QrCodeEcc, Version};
 
 // Level and mask with ten check bits: uint15.
 fn format_word(ecl: QrCodeEcc, mask: Mask) -> u32
-    requires { IsMask mask }
-    ensures { (result ≡ format_word (level_of ecl) mask.0) × (result < 32768) }
+    ensures { (result ≡ format_word (level_of ecl) mask.value) × (result < 32768) }
 {
     let bits = ecl.format_bits();
     let data = 8 * bits as u32 + mask.value() as u32;
@@ -104,9 +103,8 @@ fn draw_second_copy(grid: &mut [u8], size: usize, bits: u32)
 // Draws two copies of the format bits (with its own error correction code)
 // based on the given mask and error correction level.
 pub fn draw_format_bits(grid: &mut [u8], ver: Version, ecl: QrCodeEcc, mask: Mask)
-    requires square { Square grid.old (side ver.0) }
-    requires version { IsVersion ver × IsMask mask }
-    ensures { grid.new ≡ paint (side ver.0) (formats (side ver.0) (format_word (level_of ecl) mask.0)) grid.old }
+    requires square { Square grid.old (side ver.value) }
+    ensures { grid.new ≡ paint (side ver.value) (formats (side ver.value) (format_word (level_of ecl) mask.value)) grid.old }
 {
     let bits = format_word(ecl, mask);
     let size = super::size_of(ver);

@@ -13,7 +13,7 @@ ghost use Rattle.laws.specs.Grid.{Square, paint};
 ghost use Rattle.laws.specs.Box.{box_cell};
 ghost use Rattle.laws.specs.Dots.{dot};
 ghost use Rattle.laws.specs.Marks.{twin};
-ghost use Rattle.types.specs.Numbers.{level_of, IsVersion, IsMask};
+ghost use Rattle.types.specs.Numbers.{level_of};
 ghost use Rattle.patterns.specs.Layers.{timings, functions};
 ghost use Rattle.patterns.specs.Shapes.{finder};
 ghost use Rattle.patterns.specs.FinderLayer.{finders};
@@ -25,8 +25,7 @@ use types::{Mask, QrCodeEcc, Version};
 
 // The width and height of a QR Code of the given version, between 21 and 177 (inclusive).
 pub fn size_of(ver: Version) -> usize
-    requires { IsVersion ver }
-    ensures { result ≡ side ver.0 }
+    ensures { result ≡ side ver.value }
 {
     let v = ver.value() as usize;
     4 * v + 17
@@ -169,9 +168,8 @@ fn draw_finders(grid: &mut [u8], size: usize)
 
 // Draws and marks all function modules.
 pub fn draw_function_patterns(grid: &mut [u8], ver: Version, ecl: QrCodeEcc, mask: Mask)
-    requires square { Square grid.old (side ver.0) }
-    requires version { IsVersion ver × IsMask mask }
-    ensures { grid.new ≡ paint (side ver.0) (functions ver.0 (format_word (level_of ecl) mask.0)) grid.old }
+    requires square { Square grid.old (side ver.value) }
+    ensures { grid.new ≡ paint (side ver.value) (functions ver.value (format_word (level_of ecl) mask.value)) grid.old }
 {
     let size = size_of(ver);
     let v = ver.value() as usize;

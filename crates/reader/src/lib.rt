@@ -8,7 +8,7 @@ ghost use Rattle.standard.specs.Numbers.{same};
 ghost use Rattle.standard.specs.Sizes.{side, raw_codewords, data_codewords};
 ghost use Rattle.standard.specs.Blocks.{all_words};
 ghost use Rattle.laws.specs.Grid.{Square};
-ghost use Rattle.types.specs.Numbers.{level_of, IsVersion, IsMask};
+ghost use Rattle.types.specs.Numbers.{level_of};
 ghost use Rattle.blocks.specs.Undo.{data_of};
 ghost use Rattle.modules.specs.FormatBack.{read_level, read_mask};
 ghost use Rattle.modules.specs.Work.{Small};
@@ -89,12 +89,12 @@ fn read_data(
     all: &mut [u8],
     data: &mut [u8],
 )
-    requires square { Square grid.now (side ver.0) }
-    requires square_2 { Square work.old (side ver.0) }
-    requires version { IsVersion ver × IsMask mask × (length all.old ≡ raw_codewords ver.0 + 1) × (length «data».old ≡ data_codewords ver.0 (level_of ecl)) }
-    ensures all_after { all.new ≡ read_words ver.0 (level_of ecl) mask.0 grid.now all.old }
-    ensures data_after { «data».new ≡ data_of ver.0 (level_of ecl) (take (raw_codewords ver.0) all.new) }
-    ensures work_after { work.new ≡ read_grid ver.0 (level_of ecl) mask.0 grid.now }
+    requires square { Square grid.now (side ver.value) }
+    requires square_2 { Square work.old (side ver.value) }
+    requires version { (length all.old ≡ raw_codewords ver.value + 1) × (length «data».old ≡ data_codewords ver.value (level_of ecl)) }
+    ensures all_after { all.new ≡ read_words ver.value (level_of ecl) mask.value grid.now all.old }
+    ensures data_after { «data».new ≡ data_of ver.value (level_of ecl) (take (raw_codewords ver.value) all.new) }
+    ensures work_after { work.new ≡ read_grid ver.value (level_of ecl) mask.value grid.now }
 {
     modules::read_codewords(grid, work, ver, ecl, mask, all);
     let raw = all.len() - 1;
@@ -103,8 +103,8 @@ fn read_data(
 
 // Makes all codewords of the data anew, check bytes and all, in `again`, and answers whether they are those in `all`.
 fn same_words(ver: Version, ecl: QrCodeEcc, data: &[u8], all: &[u8], again: &mut [u8]) -> bool
-    requires { IsVersion ver × (length all.now ≡ raw_codewords ver.0) × (length again.old ≡ raw_codewords ver.0) × (length «data».now ≡ data_codewords ver.0 (level_of ecl)) }
-    ensures { result ≡ same all.now (all_words ver.0 (level_of ecl) «data».now) }
+    requires { (length all.now ≡ raw_codewords ver.value) × (length again.old ≡ raw_codewords ver.value) × (length «data».now ≡ data_codewords ver.value (level_of ecl)) }
+    ensures { result ≡ same all.now (all_words ver.value (level_of ecl) «data».now) }
 {
     blocks::add_ecc_and_interleave(ver, ecl, data, again);
     equal(all, again)
@@ -120,9 +120,9 @@ fn is_drawn(
     all: &[u8],
     work: &mut [u8],
 ) -> bool
-    requires grid_len { (length grid.now ≡ length work.old) × Square work.old (side ver.0) }
-    requires version { IsVersion ver × (length all.now ≡ raw_codewords ver.0 + 1) × (length «data».now ≡ data_codewords ver.0 (level_of ecl)) }
-    ensures { result ≡ agree_to (length work.old) grid.now work.old && same all.now (all_words ver.0 (level_of ecl) «data».now ++ (0 ∷ [])) }
+    requires grid_len { (length grid.now ≡ length work.old) × Square work.old (side ver.value) }
+    requires version { (length all.now ≡ raw_codewords ver.value + 1) × (length «data».now ≡ data_codewords ver.value (level_of ecl)) }
+    ensures { result ≡ agree_to (length work.old) grid.now work.old && same all.now (all_words ver.value (level_of ecl) «data».now ++ (0 ∷ [])) }
 {
     if !modules::same_functions(grid, work) {
         return false;
@@ -143,8 +143,8 @@ fn tell(
     text: &mut [u8],
     records: &mut [u64],
 ) -> Outcome
-    requires { IsVersion ver × IsMask mask × (length «data».now ≡ data_codewords ver.0 (level_of ecl)) }
-    ensures { Tells ver.0 (level_of ecl) mask.0 «data».now text.old records.old result text.new records.new }
+    requires { (length «data».now ≡ data_codewords ver.value (level_of ecl)) }
+    ensures { Tells ver.value (level_of ecl) mask.value «data».now text.old records.old result text.new records.new }
 {
     let c = parser::count_all(data, ver);
     match c {
@@ -183,10 +183,10 @@ fn read_words(
     all: &mut [u8],
     data: &mut [u8],
 ) -> Outcome
-    requires square { Square grid.now (side ver.0) }
-    requires square_2 { Square work.old (side ver.0) }
-    requires version { IsVersion ver × IsMask mask × (all.old ≡ replicate (raw_codewords ver.0 + 1) 0) × (length «data».old ≡ data_codewords ver.0 (level_of ecl)) }
-    requires ecl_value { (level_of ecl ≡ read_level (side ver.0) grid.now) × (mask.0 ≡ read_mask (side ver.0) grid.now) × Small ver.0 grid.now }
+    requires square { Square grid.now (side ver.value) }
+    requires square_2 { Square work.old (side ver.value) }
+    requires version { (all.old ≡ replicate (raw_codewords ver.value + 1) 0) × (length «data».old ≡ data_codewords ver.value (level_of ecl)) }
+    requires ecl_value { (level_of ecl ≡ read_level (side ver.value) grid.now) × (mask.value ≡ read_mask (side ver.value) grid.now) × Small ver.value grid.now }
     ensures { Looks grid.now text.old records.old result text.new records.new }
 {
     read_data(grid, ver, ecl, mask, work, all, data);
@@ -204,9 +204,9 @@ fn read_square(
     records: &mut [u64],
     work: &mut [u8],
 ) -> Outcome
-    requires square { Square grid.now (side ver.0) }
-    requires square_2 { Square work.old (side ver.0) }
-    requires version { IsVersion ver × Small ver.0 grid.now }
+    requires square { Square grid.now (side ver.value) }
+    requires square_2 { Square work.old (side ver.value) }
+    requires version { Small ver.value grid.now }
     ensures { Looks grid.now text.old records.old result text.new records.new }
 {
     let ecl = modules::read_level(grid, ver);
@@ -247,8 +247,8 @@ fn read_checked(
     records: &mut [u64],
     scratch: &mut [u8],
 ) -> Outcome
-    requires square { Square grid.now (side ver.0) }
-    requires version { IsVersion ver × (40000 ≤ length scratch.old) × Small ver.0 grid.now }
+    requires square { Square grid.now (side ver.value) }
+    requires version { (40000 ≤ length scratch.old) × Small ver.value grid.now }
     ensures { FindsNumbers grid.now text.old records.old (zeroed scratch.old) result text.new records.new scratch.new }
 {
     let size = patterns::size_of(ver);

@@ -4,11 +4,11 @@
 
 ghost use Rattle.std.specs.Prelude.{◌≡◌, ◌<◌, ◌≤◌, length};
 ghost use Rattle.standard.specs.Sizes.{raw_codewords, data_codewords};
-ghost use Rattle.types.specs.Numbers.{IsVersion, level_of};
+ghost use Rattle.types.specs.Numbers.{level_of};
 
 use std::io::Read;
 use streams::read_full;
-use types::{NewVersion, QrCodeEcc, Version};
+use types::{QrCodeEcc, Version};
 
 // How many cases were compared in full and by digests, how many of them differ, and how many
 // gave other data codewords back.
@@ -66,8 +66,8 @@ fn line(input: &mut impl Read, t: Tally) -> Tally {
     }
     let n = Version::new(digit(head[2]) * 10 + digit(head[3]));
     match n {
-        NewVersion::Some(ver) => case(input, t, head[0], ver, level(head[5])),
-        NewVersion::None => ended(t),
+        Some(ver) => case(input, t, head[0], ver, level(head[5])),
+        None => ended(t),
     }
 }
 
@@ -101,7 +101,6 @@ fn level(c: u8) -> QrCodeEcc {
 
 // One case, in buffers of the size that the largest version needs.
 fn case(input: &mut impl Read, t: Tally, kind: u8, ver: Version, ecl: QrCodeEcc) -> Tally
-    requires { IsVersion ver }
 {
     let n = capacity::get_num_data_codewords(ver, ecl);
     let m = capacity::get_num_raw_data_modules(ver) / 8;
@@ -131,8 +130,7 @@ fn compared(
     all: &mut [u8],
     back: &mut [u8],
 ) -> Tally
-    requires version { IsVersion ver }
-    requires data_len { (length «data».old ≡ data_codewords ver.0 (level_of ecl)) × (length back.old ≡ data_codewords ver.0 (level_of ecl)) × (length all.old ≡ raw_codewords ver.0) }
+    requires data_len { (length «data».old ≡ data_codewords ver.value (level_of ecl)) × (length back.old ≡ data_codewords ver.value (level_of ecl)) × (length all.old ≡ raw_codewords ver.value) }
 {
     fill(data, seed(ver.value(), ecl.ordinal()));
     blocks::add_ecc_and_interleave(ver, ecl, data, all);

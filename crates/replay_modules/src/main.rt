@@ -5,14 +5,13 @@
 ghost use Rattle.std.specs.Prelude.{◌<◌, ◌≤◌, length};
 ghost use Rattle.standard.specs.Sizes.{side};
 ghost use Rattle.laws.specs.Grid.{Square};
-ghost use Rattle.types.specs.Numbers.{IsVersion, IsMask};
 
 mod codewords; // the codewords of a case
 mod lines; // the lines of the list
 
 use lines::Line;
 use std::io::Read;
-use types::{Mask, NewMask, NewVersion, QrCodeEcc, Version};
+use types::{Mask, QrCodeEcc, Version};
 
 // How many grids were compared in full and by digests, how many of them differ, how many
 // gave something else back, and how many answered wrong.
@@ -77,7 +76,7 @@ fn one(t: Tally, line: [u8; 32768], n: usize) -> Tally {
     }
     let v = Version::new(lines::digit(line[2]) * 10 + lines::digit(line[3]));
     match v {
-        NewVersion::Some(ver) => masked(
+        Some(ver) => masked(
             t,
             line[0],
             ver,
@@ -85,24 +84,22 @@ fn one(t: Tally, line: [u8; 32768], n: usize) -> Tally {
             lines::digit(line[7]),
             &line[9..n],
         ),
-        NewVersion::None => told_of(t, line[0], false, true, true),
+        None => told_of(t, line[0], false, true, true),
     }
 }
 
 // The rest of a line, once its version is known.
 fn masked(t: Tally, kind: u8, ver: Version, ecl: QrCodeEcc, m: u8, want: &[u8]) -> Tally
-    requires { IsVersion ver }
 {
     let n = Mask::new(m);
     match n {
-        NewMask::Some(mask) => case(t, kind, ver, ecl, mask, want),
-        NewMask::None => told_of(t, kind, false, true, true),
+        Some(mask) => case(t, kind, ver, ecl, mask, want),
+        None => told_of(t, kind, false, true, true),
     }
 }
 
 // One case, in buffers of the size that the largest version needs.
 fn case(t: Tally, kind: u8, ver: Version, ecl: QrCodeEcc, mask: Mask, want: &[u8]) -> Tally
-    requires { IsVersion ver × IsMask mask }
 {
     let size = patterns::size_of(ver);
     let n = size * size;
@@ -138,9 +135,8 @@ fn compared(
     words: &mut [u8],
     back: &mut [u8],
 ) -> Tally
-    requires version { IsVersion ver × IsMask mask }
-    requires square { Square grid.old (side ver.0) }
-    requires square_2 { Square work.old (side ver.0) }
+    requires square { Square grid.old (side ver.value) }
+    requires square_2 { Square work.old (side ver.value) }
     requires words_len_bound { (length words.old ≤ 4096) × (length back.old ≤ 4096) }
 {
     codewords::fill(
@@ -163,9 +159,8 @@ fn drawn(
     words: &[u8],
     back: &mut [u8],
 ) -> Tally
-    requires version { IsVersion ver × IsMask mask }
-    requires square { Square grid.old (side ver.0) }
-    requires square_2 { Square work.old (side ver.0) }
+    requires square { Square grid.old (side ver.value) }
+    requires square_2 { Square work.old (side ver.value) }
     requires words_len_bound { (length words.now ≤ 4096) × (length back.old ≤ 4096) }
 {
     modules::draw_label(grid, ver, ecl, mask, words);
@@ -185,8 +180,7 @@ fn shown(
     grid: &[u8],
     found: bool,
 ) -> Tally
-    requires version { IsVersion ver }
-    requires square { Square grid.now (side ver.0) }
+    requires square { Square grid.now (side ver.value) }
 {
     let size = patterns::size_of(ver);
     let format = format_is(grid, ver, ecl, mask);
@@ -216,8 +210,7 @@ fn both(a: bool, b: bool) -> bool {
 
 // Whether level and mask are read.
 fn format_is(grid: &[u8], ver: Version, ecl: QrCodeEcc, mask: Mask) -> bool
-    requires square { Square grid.now (side ver.0) }
-    requires version { IsVersion ver }
+    requires square { Square grid.now (side ver.value) }
 {
     let l = modules::read_level(grid, ver);
     let m = modules::read_mask(grid, ver);

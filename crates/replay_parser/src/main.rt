@@ -2,12 +2,11 @@
 #![tactic(auto)]
 
 ghost use Rattle.std.specs.Prelude.{◌*◌, ◌<◌, ◌≤◌, length};
-ghost use Rattle.types.specs.Numbers.{IsVersion};
 
 use parser::Counted;
 use std::io::Read;
 use streams::read_full;
-use types::{NewVersion, Version};
+use types::Version;
 
 // The number of a hexadecimal digit.
 fn digit(c: u8) -> u8
@@ -94,7 +93,7 @@ fn same(
     text: &mut [u8],
     records: &mut [u64],
 ) -> bool
-    requires { IsVersion ver × (length codewords.now ≤ 4096) × (length text.old ≤ 8192) × (length records.old ≤ 8192) }
+    requires { (length codewords.now ≤ 4096) × (length text.old ≤ 8192) × (length records.old ≤ 8192) }
 {
     let c = parser::count_all(codewords, ver);
     match c {
@@ -123,7 +122,7 @@ fn same(
 
 // The same with buffers of its own.
 fn answers(codewords: &[u8], ver: Version, want: &[u8], r: usize, t: usize) -> bool
-    requires { IsVersion ver × (length codewords.now ≤ 4096) }
+    requires { length codewords.now ≤ 4096 }
 {
     let mut text = [0u8; 8192];
     let mut records = [0u64; 8192];
@@ -144,8 +143,8 @@ fn case(s: &[u8]) -> bool {
     }
     let v = Version::new(byte_at(s, 0) as u8);
     match v {
-        NewVersion::Some(ver) => answers(&s[7..end], ver, &s[end..], r, t),
-        NewVersion::None => false,
+        Some(ver) => answers(&s[7..end], ver, &s[end..], r, t),
+        None => false,
     }
 }
 

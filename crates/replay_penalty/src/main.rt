@@ -5,7 +5,6 @@
 ghost use Rattle.std.specs.Prelude.{◌≡◌, ◌*◌, ◌+◌, ◌<◌, ◌≤◌, length};
 ghost use Rattle.standard.specs.Sizes.{side as side_of};
 ghost use Rattle.laws.specs.Grid.{Square};
-ghost use Rattle.types.specs.Numbers.{IsVersion};
 
 use std::io::Read;
 use streams::read_full;
@@ -172,8 +171,8 @@ fn mark(grid: &mut [u8]) {
 
 // Scores the grid on packed lines: mask m is drawn, and the same mask laid over the packed lines takes it off again.
 fn score_packed(grid: &mut [u8], rows: &mut [u64], columns: &mut [u64], ver: Version, m: u8) -> u32
-    requires square { Square grid.old (side_of ver.0) }
-    requires version { IsVersion ver × (m < 8) × (length rows.old ≡ 6 * side_of ver.0) × (length columns.old ≡ 6 * side_of ver.0) }
+    requires square { Square grid.old (side_of ver.value) }
+    requires version { (m < 8) × (length rows.old ≡ 6 * side_of ver.value) × (length columns.old ≡ 6 * side_of ver.value) }
 {
     modules::apply_mask(grid, ver, types::mask_at(m));
     let side = patterns::size_of(ver);
@@ -184,8 +183,8 @@ fn score_packed(grid: &mut [u8], rows: &mut [u64], columns: &mut [u64], ver: Ver
 
 // Has room for the packed lines.
 fn score_lines(grid: &mut [u8], ver: Version, m: u8) -> u32
-    requires square { Square grid.old (side_of ver.0) }
-    requires version { IsVersion ver × (m < 8) }
+    requires square { Square grid.old (side_of ver.value) }
+    requires version { m < 8 }
 {
     mark(grid);
     let mut rows = [0u64; 1062];
@@ -196,8 +195,8 @@ fn score_lines(grid: &mut [u8], ver: Version, m: u8) -> u32
 
 // Makes the grid and scores it in both ways; 0xFFFF_FFFF, which is no score, if they differ.
 fn score(grid: &mut [u8], kind: u64, ver: Version, p: u64) -> u32
-    requires square { Square grid.old (side_of ver.0) }
-    requires version { IsVersion ver × (p < 1000) }
+    requires square { Square grid.old (side_of ver.value) }
+    requires version { p < 1000 }
 {
     let side = patterns::size_of(ver);
     make(grid, kind, side, p);
@@ -210,7 +209,7 @@ fn score(grid: &mut [u8], kind: u64, ver: Version, p: u64) -> u32
 
 // Uses as many bytes as the grid has modules.
 fn score_in(room: &mut [u8], kind: u64, ver: Version, p: u64) -> u32
-    requires { IsVersion ver × (p < 1000) }
+    requires { p < 1000 }
 {
     let side = patterns::size_of(ver);
     let n = side * side;
@@ -222,7 +221,7 @@ fn score_in(room: &mut [u8], kind: u64, ver: Version, p: u64) -> u32
 
 // The score of the grid of a case.
 fn score_of(kind: u64, ver: Version, p: u64) -> u32
-    requires { IsVersion ver × (p < 1000) }
+    requires { p < 1000 }
 {
     let mut room = [0u8; 31329];
     score_in(&mut room, kind, ver, p)

@@ -6,7 +6,7 @@ ghost use Rattle.std.specs.Prelude.{◌≡◌, ◌<◌, T, length, replicate};
 ghost use Rattle.standard.specs.Numbers.{every};
 ghost use Rattle.standard.specs.Sizes.{data_codewords};
 ghost use Rattle.standard.specs.Segments.{segments_of, good_part, fits};
-ghost use Rattle.types.specs.Numbers.{level_of, IsVersion};
+ghost use Rattle.types.specs.Numbers.{level_of};
 ghost use Rattle.segments.specs.Records.{parts_of};
 
 mod lines; // the lines of the list
@@ -14,7 +14,7 @@ mod lines; // the lines of the list
 use lines::{digit, fill, read_line, read_records, same_bits, six, zero};
 use segments::TotalBits;
 use std::io::Read;
-use types::{NewVersion, QrCodeEcc, Version};
+use types::{QrCodeEcc, Version};
 
 // Makes the payload of a kind in a zeroed buffer, and returns the bit after it.
 fn make(bb: &mut [u8], kind: usize, text: &[u8], assign: usize) -> usize
@@ -91,7 +91,7 @@ fn words_same(
     records: &[u64],
     line: &[u8],
 ) -> bool
-    requires { IsVersion ver × (length bb.old ≡ data_codewords ver.0 (level_of ecl)) × T (every (good_part text.now) (parts_of records.now)) × T (fits (level_of ecl) (segments_of text.now (parts_of records.now)) ver.0) }
+    requires { (length bb.old ≡ data_codewords ver.value (level_of ecl)) × T (every (good_part text.now) (parts_of records.now)) × T (fits (level_of ecl) (segments_of text.now (parts_of records.now)) ver.value) }
 {
     zero(bb);
     segments::codewords::data_codewords(bb, ver, ecl, text, records);
@@ -107,7 +107,7 @@ fn words_in(
     records: &[u64],
     line: &[u8],
 ) -> bool
-    requires { IsVersion ver × T (every (good_part text.now) (parts_of records.now)) × T (fits (level_of ecl) (segments_of text.now (parts_of records.now)) ver.0) }
+    requires { T (every (good_part text.now) (parts_of records.now)) × T (fits (level_of ecl) (segments_of text.now (parts_of records.now)) ver.value) }
 {
     let n = capacity::get_num_data_codewords(ver, ecl);
     if n <= bb.len() {
@@ -118,7 +118,7 @@ fn words_in(
 
 // The same in a buffer of its own.
 fn words_of(ver: Version, ecl: QrCodeEcc, text: &[u8], records: &[u64], line: &[u8]) -> bool
-    requires { IsVersion ver × T (every (good_part text.now) (parts_of records.now)) × T (fits (level_of ecl) (segments_of text.now (parts_of records.now)) ver.0) }
+    requires { T (every (good_part text.now) (parts_of records.now)) × T (fits (level_of ecl) (segments_of text.now (parts_of records.now)) ver.value) }
 {
     let mut bb = [0u8; 2956];
     words_in(&mut bb, ver, ecl, text, records, line)
@@ -134,7 +134,6 @@ fn list_same(
     total: usize,
     line: &[u8],
 ) -> bool
-    requires { IsVersion ver }
 {
     if 8192 < records.len() {
         return false;
@@ -179,8 +178,8 @@ fn version_same(
     }
     let v = Version::new(ver as u8);
     match v {
-        NewVersion::Some(x) => list_same(text, records, x, level(l), told, total, line),
-        NewVersion::None => false,
+        Some(x) => list_same(text, records, x, level(l), told, total, line),
+        None => false,
     }
 }
 

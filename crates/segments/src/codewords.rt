@@ -4,7 +4,7 @@ ghost use Rattle.standard.specs.Numbers.{every};
 ghost use Rattle.standard.specs.Sizes.{data_codewords};
 ghost use Rattle.standard.specs.Segments.{segments_of, good_part, stream, lengths_fit, fits};
 ghost use Rattle.standard.specs.Codewords.{pad_byte, padded, data_words};
-ghost use Rattle.types.specs.Numbers.{IsVersion, level_of};
+ghost use Rattle.types.specs.Numbers.{level_of};
 ghost use Rattle.bits.specs.Appended.{Free, Appended};
 ghost use Rattle.segments.specs.Records.{parts_of};
 ghost use Rattle.segments.specs.Ends.{end_bits};
@@ -15,8 +15,8 @@ use types::{QrCodeEcc, Version};
 
 // Concatenates all segments to create the data bit string, and returns the bit after it.
 fn append_segments(bb: &mut [u8], ver: Version, text: &[u8], records: &[u64]) -> usize
-    requires { IsVersion ver × T (every (good_part text.now) (parts_of records.now)) × T (lengths_fit ver.0 (segments_of text.now (parts_of records.now))) × Free bb.old 0 (stream ver.0 (segments_of text.now (parts_of records.now))) }
-    ensures { Appended bb.old bb.new 0 result (stream ver.0 (segments_of text.now (parts_of records.now))) }
+    requires { T (every (good_part text.now) (parts_of records.now)) × T (lengths_fit ver.value (segments_of text.now (parts_of records.now))) × Free bb.old 0 (stream ver.value (segments_of text.now (parts_of records.now))) }
+    ensures { Appended bb.old bb.new 0 result (stream ver.value (segments_of text.now (parts_of records.now))) }
 {
     let n = records.len() / 4;
     let mut at: usize = 0;
@@ -74,8 +74,8 @@ fn add_pad_bytes(bb: &mut [u8], k: usize)
 // Writes the data codewords of records that are as they should be and fit the version at the level
 // into a buffer of zeros that is as long as they are.
 pub fn data_codewords(bb: &mut [u8], ver: Version, ecl: QrCodeEcc, text: &[u8], records: &[u64])
-    requires { IsVersion ver × (bb.old ≡ replicate (data_codewords ver.0 (level_of ecl)) 0) × T (every (good_part text.now) (parts_of records.now)) × T (fits (level_of ecl) (segments_of text.now (parts_of records.now)) ver.0) }
-    ensures { bb.new ≡ data_words ver.0 (level_of ecl) (segments_of text.now (parts_of records.now)) }
+    requires { (bb.old ≡ replicate (data_codewords ver.value (level_of ecl)) 0) × T (every (good_part text.now) (parts_of records.now)) × T (fits (level_of ecl) (segments_of text.now (parts_of records.now)) ver.value) }
+    ensures { bb.new ≡ data_words ver.value (level_of ecl) (segments_of text.now (parts_of records.now)) }
 {
     let datacapacitybits = 8 * capacity::get_num_data_codewords(ver, ecl);
     let len = append_segments(bb, ver, text, records);

@@ -3,7 +3,6 @@ ghost use Rattle.std.specs.Prelude.{◌≡◌, ◌+◌, ◌^◌, ◌<◌, ◌≤
 ghost use Rattle.standard.specs.Numbers.{every};
 ghost use Rattle.standard.specs.Kinds.{count_width, is_digit, is_alphanumeric, allowed, digit_bits, pair_bits, byte_bits, eci_bits};
 ghost use Rattle.standard.specs.Segments.{good_segment, payload, segment_bits};
-ghost use Rattle.types.specs.Numbers.{IsVersion};
 ghost use Rattle.bits.specs.Appended.{Free, Appended};
 ghost use Rattle.segments.specs.Kinds.{size, group_number};
 ghost use Rattle.segments.specs.Runs.{run_bits};
@@ -116,8 +115,8 @@ pub(crate) fn append_segment(
     chars: &[u8],
     assignval: u32,
 ) -> usize
-    requires { IsVersion ver × T (good_segment (segment kind chars.now assignval)) × (length chars.now < 2 ^ count_width ver.0 kind) × Free bb.old at (segment_bits ver.0 (segment kind chars.now assignval)) }
-    ensures { Appended bb.old bb.new at result (segment_bits ver.0 (segment kind chars.now assignval)) }
+    requires { T (good_segment (segment kind chars.now assignval)) × (length chars.now < 2 ^ count_width ver.value kind) × Free bb.old at (segment_bits ver.value (segment kind chars.now assignval)) }
+    ensures { Appended bb.old bb.new at result (segment_bits ver.value (segment kind chars.now assignval)) }
 {
     let mode = mode_of(kind);
     let p = bits::append_bits(bb, at, mode.mode_bits(), 4);

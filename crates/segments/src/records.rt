@@ -2,7 +2,6 @@
 ghost use Rattle.std.specs.Prelude.{◌≡◌, ◌*◌, ◌/◌, ◌^◌, ◌<◌, ◌≤◌, T, length};
 ghost use Rattle.standard.specs.Numbers.{every};
 ghost use Rattle.standard.specs.Segments.{segments_of, good_part, first_bad, payload, whole};
-ghost use Rattle.types.specs.Numbers.{IsVersion};
 ghost use Rattle.segments.specs.Runs.{run_size};
 ghost use Rattle.segments.specs.Payload.{segment};
 ghost use Rattle.segments.specs.Records.{part_of, parts_of};
@@ -42,8 +41,8 @@ fn payload_bits(kind: u8, chars: &[u8], assignval: u32) -> usize
 
 // How many bits a segment takes at the given version, or that its length does not fit its length field.
 fn segment_bits(ver: Version, kind: u8, chars: &[u8], assignval: u32) -> TotalBits
-    requires { IsVersion ver × (kind ≤ 3) }
-    ensures { result ≡ size_of ver.0 (segment kind chars.now assignval) }
+    requires { kind ≤ 3 }
+    ensures { result ≡ size_of ver.value (segment kind chars.now assignval) }
 {
     let mode = mode_of(kind);
     let ccbits = mode.num_char_count_bits(ver);
@@ -143,8 +142,8 @@ pub(crate) fn record_at(text: &[u8], records: &[u64], i: usize) -> Named
 // Calculates and returns the number of bits needed to encode the given records at the given version.
 // There is none if a segment has too many characters to fit its length field.
 pub fn get_total_bits(text: &[u8], records: &[u64], ver: Version) -> TotalBits
-    requires { IsVersion ver × (length records.now ≤ 8195) × T (every (good_part text.now) (parts_of records.now)) }
-    ensures { result ≡ total_of ver.0 (segments_of text.now (parts_of records.now)) }
+    requires { (length records.now ≤ 8195) × T (every (good_part text.now) (parts_of records.now)) }
+    ensures { result ≡ total_of ver.value (segments_of text.now (parts_of records.now)) }
 {
     let n = records.len() / 4;
     let mut result: usize = 0;

@@ -1,13 +1,13 @@
 // The number types of the original, so that a mask can't be passed as a version, its levels and its modes.
 #![tactic(auto)]
 
-ghost use Rattle.std.specs.Prelude.{◌≡◌, ◌≤◌};
+ghost use Rattle.std.specs.Prelude.{◌≡◌, ◌≤◌, option_map};
 ghost use Rattle.standard.specs.Format.{level_bits};
 ghost use Rattle.standard.specs.Kinds.{mode_bits, count_width};
-ghost use Rattle.types.specs.Numbers.{level_of, kind_of, IsVersion, new_version, new_mask};
+ghost use Rattle.types.specs.Numbers.{level_of, kind_of, text_kind_of, new_version, new_mask};
 
 // The error correction level in a QR Code symbol.
-#[derive(Clone, Copy)]
+#[derive(Clone, Copy, PartialEq, Eq)]
 pub enum QrCodeEcc {
     // The QR Code can tolerate about  7% erroneous codewords.
     Low,
@@ -24,8 +24,7 @@ impl QrCodeEcc {
     pub fn ordinal(self) -> usize
         ensures { result ≡ level_of self }
     {
-        let ecl = self;
-        match ecl {
+        match self {
             QrCodeEcc::Low => 0,
             QrCodeEcc::Medium => 1,
             QrCodeEcc::Quartile => 2,
@@ -38,8 +37,7 @@ impl QrCodeEcc {
     pub fn format_bits(self) -> u8
         ensures { result ≡ level_bits (level_of self) }
     {
-        let ecl = self;
-        match ecl {
+        match self {
             QrCodeEcc::Low => 1,
             QrCodeEcc::Medium => 0,
             QrCodeEcc::Quartile => 3,
@@ -49,7 +47,7 @@ impl QrCodeEcc {
 }
 
 // Describes how a segment's data bits are interpreted.
-#[derive(Clone, Copy)]
+#[derive(Clone, Copy, PartialEq, Eq)]
 pub enum QrSegmentMode {
     Numeric,
     Alphanumeric,
@@ -63,8 +61,7 @@ impl QrSegmentMode {
     pub fn mode_bits(self) -> u32
         ensures { result ≡ mode_bits (kind_of self) }
     {
-        let mode = self;
-        match mode {
+        match self {
             QrSegmentMode::Numeric => 0x1,
             QrSegmentMode::Alphanumeric => 0x2,
             QrSegmentMode::Byte => 0x4,
@@ -75,12 +72,10 @@ impl QrSegmentMode {
     // Returns the bit width of the character count field for a segment in this mode
     // in a QR Code at the given version number. The result is in the range [0, 16].
     pub fn num_char_count_bits(self, ver: Version) -> u8
-        requires { IsVersion ver }
-        ensures { result ≡ count_width ver.0 (kind_of self) }
+        ensures { result ≡ count_width ver.value (kind_of self) }
     {
         let class = ((ver.value() + 7) / 17) as usize;
-        let mode = self;
-        match mode {
+        match self {
             QrSegmentMode::Numeric => NUMERIC_WIDTHS[class],
             QrSegmentMode::Alphanumeric => ALPHANUMERIC_WIDTHS[class],
             QrSegmentMode::Byte => BYTE_WIDTHS[class],
@@ -96,74 +91,95 @@ const ALPHANUMERIC_WIDTHS: [u8; 3] = [9, 11, 13];
 
 const BYTE_WIDTHS: [u8; 3] = [8, 16, 16];
 
-// A number between 1 and 40 (inclusive).
-#[derive(Clone, Copy)]
-pub struct Version(u8);
+// The kinds of segments that have characters.
+#[derive(Clone, Copy, PartialEq, Eq)]
+pub enum TextKind {
+    Numeric,
+    Alphanumeric,
+    Byte,
+}
 
-// What `Version::new` answers: the value, or that there is none.
-#[derive(Clone, Copy)]
-pub enum NewVersion {
-    Some(Version),
-    None,
+impl TextKind {
+    // Returns the number of the kind in a record.
+    pub fn number(self) -> u8
+        ensures { result ≡ text_kind_of self }
+    {
+        match self {
+            TextKind::Numeric => 0,
+            TextKind::Alphanumeric => 1,
+            TextKind::Byte => 2,
+        }
+    }
+
+    // Returns the mode of a segment of this kind.
+    pub fn mode(self) -> QrSegmentMode
+        ensures { kind_of result ≡ text_kind_of self }
+    {
+        match self {
+            TextKind::Numeric => QrSegmentMode::Numeric,
+            TextKind::Alphanumeric => QrSegmentMode::Alphanumeric,
+            TextKind::Byte => QrSegmentMode::Byte,
+        }
+    }
+}
+
+// A number between 1 and 40 (inclusive).
+#[derive(Clone, Copy, PartialEq, Eq)]
+pub struct Version {
+    value: u8,
+    pub ghost in_range: { (1 ≤ value) × (value ≤ 40) },
 }
 
 impl Version {
     // The minimum version number supported in the QR Code Model 2 standard.
-    pub const MIN: Version = Version(1);
+    pub const MIN: Version = Version { value: 1 };
 
     // The maximum version number supported in the QR Code Model 2 standard.
-    pub const MAX: Version = Version(40);
+    pub const MAX: Version = Version { value: 40 };
 
     // Creates a version object from the given number; there is none outside the range [1, 40].
     #[tactic(auto, using(crate::specs::Laws::version_low, crate::specs::Laws::version_high, crate::specs::Laws::version_is))]
-    pub fn new(ver: u8) -> NewVersion
-        ensures { result ≡ new_version ver }
+    pub fn new(ver: u8) -> Option<Version>
+        ensures { option_map (λ v. v.value) result ≡ new_version ver }
     {
-        if ver < Version::MIN.value() {
-            return NewVersion::None;
+        if ver < Version::MIN.value() || Version::MAX.value() < ver {
+            return None;
         }
-        if Version::MAX.value() < ver {
-            return NewVersion::None;
-        }
-        NewVersion::Some(Version(ver))
+        Some(Version { value: ver })
     }
 
     // Returns the value, which is in the range [1, 40].
     pub fn value(self) -> u8
-        ensures { result ≡ self.0 }
+        ensures { result ≡ self.value }
     {
-        self.0
+        self.value
     }
 }
 
 // A number between 0 and 7 (inclusive).
-#[derive(Clone, Copy)]
-pub struct Mask(u8);
-
-// What `Mask::new` answers: the value, or that there is none.
-#[derive(Clone, Copy)]
-pub enum NewMask {
-    Some(Mask),
-    None,
+#[derive(Clone, Copy, PartialEq, Eq)]
+pub struct Mask {
+    value: u8,
+    pub ghost in_range: { value ≤ 7 },
 }
 
 impl Mask {
     // Creates a mask object from the given number; there is none above 7.
     #[tactic(auto, using(crate::specs::Laws::mask_high, crate::specs::Laws::mask_is))]
-    pub fn new(mask: u8) -> NewMask
-        ensures { result ≡ new_mask mask }
+    pub fn new(mask: u8) -> Option<Mask>
+        ensures { option_map (λ m. m.value) result ≡ new_mask mask }
     {
         if 7 < mask {
-            return NewMask::None;
+            return None;
         }
-        NewMask::Some(Mask(mask))
+        Some(Mask { value: mask })
     }
 
     // Returns the value, which is in the range [0, 7].
     pub fn value(self) -> u8
-        ensures { result ≡ self.0 }
+        ensures { result ≡ self.value }
     {
-        self.0
+        self.value
     }
 }
 
@@ -187,15 +203,15 @@ pub fn level_at(n: u8) -> QrCodeEcc
 // The version of a number that is known to be one.
 pub fn version_at(n: u8) -> Version
     requires { (1 ≤ n) × (n ≤ 40) }
-    ensures { result.0 ≡ n }
+    ensures { result.value ≡ n }
 {
-    Version(n)
+    Version { value: n }
 }
 
 // The mask of a number that is known to be one.
 pub fn mask_at(n: u8) -> Mask
     requires { n ≤ 7 }
-    ensures { result.0 ≡ n }
+    ensures { result.value ≡ n }
 {
-    Mask(n)
+    Mask { value: n }
 }
