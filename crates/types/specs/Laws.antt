@@ -1,11 +1,9 @@
 -- Laws that the proofs of the types cite: what `new` answers in each case, and widths by version.
 -- Assumes nothing.
-use Rattle.std.specs.Prelude.{ℕ, ◌+◌, ◌/◌, ◌≤◌, ◌<◌, [], ◌∷◌, Bool, ◌&&◌, get_or}
-use Rattle.std.proofs.Math.Bool.{true, false, cond}
-use Rattle.std.proofs.Math.Path.{◌≡◌, refl}
-use Rattle.std.proofs.Common.{sym, ap, ◌∙◌, arith, lit≤}
-use Rattle.std.proofs.Math.Dec.{leb}
-use borrow.Author.Tests.{lt-ltb, le-ltb, le-leb, lt-leb, leb-true}
+use Rattle.std.specs.Prelude.{ℕ, ◌+◌, ◌/◌, ◌≤◌, ◌<◌, [], ◌∷◌, get_or, Some, None}
+use Rattle.std.proofs.Math.Path.{◌≡◌}
+use Rattle.std.proofs.Common.{ap, ◌∙◌, arith, lit≤}
+use borrow.Author.Tests.{lt-ltb, le-ltb, le-leb, lt-leb}
 use Rattle.standard.specs.Kinds.{by_version, count_width}
 use Rattle.laws.specs.Tests.{split}
 use Rattle.types.specs.declared.QrCodeEcc.{QrCodeEcc}
