@@ -1,0 +1,16 @@
+-- `blocks::shares::Shares::take_data` meets its contract.
+-- Assumes nothing.
+use Prim.Native.Nat.{◌-◌, ◌≤◌, ◌<◌}
+use mathlib.Core.Path.{◌≡◌}
+use lib.ListN.{length, get_or}
+use Rattle.laws.specs.Each.{each_done}
+use Rattle.blocks.specs.Undo.{position_in}
+use Rattle.blocks.specs.Running.{Within}
+use Rattle.blocks.proofs.shares.Shares.take_data.Given as goal
+
+abbrev pub invariant-loop-x : goal.invariant-loop-x
+invariant-loop-x l =
+    let n = l.self.numblocks in
+    let s = l.self.shortdatlen in
+    let b = l.self.numshortblocks in
+    (l.out ≡ each_done l.x-index (λ d _. get_or l.all (position_in n s b d) 0) l.initial.out) × (l.x-index < length l.initial.out → Within n s b l.i l.c l.x-index)
