@@ -80,20 +80,14 @@ impl Shares {
         }
     }
 
-    // Puts the bytes of the blocks into `out` in turn: byte c of block i, for each block, and then for the next c.
-    // Block and place in the block run along with the bytes.
+    // Puts the bytes of the blocks into `out` in turn: byte c of each block that has one, and then the next c.
     pub fn interleave(self, data: &[u8], out: &mut [u8])
         requires { (length out.old ≡ data_in self.numblocks self.shortdatlen self.numshortblocks) × (length «data».now ≡ data_in self.numblocks self.shortdatlen self.numshortblocks) }
         ensures { out.new ≡ each (λ p _. get_or «data».now (source_in self.numblocks self.shortdatlen self.numshortblocks p) 0) out.old }
     {
-        let mut i: usize = 0;
-        let mut c: usize = 0;
-        for x in out.iter_mut() {
-            *x = data[self.block_start(i) + c];
-            i += 1;
-            if i == self.numblocks {
-                c += 1;
-                i = self.first_block(c);
+        for c in 0..self.shortdatlen + 1 {
+            for i in self.first_block(c)..self.numblocks {
+                out[self.place(i, c)] = data[self.block_start(i) + c];
             }
         }
     }
@@ -103,14 +97,10 @@ impl Shares {
         requires { (length out.old ≡ data_in self.numblocks self.shortdatlen self.numshortblocks) × (data_in self.numblocks self.shortdatlen self.numshortblocks ≤ length all.now) }
         ensures { out.new ≡ each (λ d _. get_or all.now (position_in self.numblocks self.shortdatlen self.numshortblocks d) 0) out.old }
     {
-        let mut i: usize = 0;
-        let mut c: usize = 0;
-        for x in out.iter_mut() {
-            *x = all[self.place(i, c)];
-            c += 1;
-            if c == self.block_length(i) {
-                c = 0;
-                i += 1;
+        for i in 0..self.numblocks {
+            let start = self.block_start(i);
+            for c in 0..self.block_length(i) {
+                out[start + c] = all[self.place(i, c)];
             }
         }
     }

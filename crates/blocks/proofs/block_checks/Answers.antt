@@ -3,10 +3,9 @@
 use Prim.Native.Nat.{ℕ, ◌*◌}
 use mathlib.Core.Path.{sym, ap, ◌∙◌}
 use native.Mathlib.Omega.{arith}
-use lib.ListN.{length}
 use Rattle.std.proofs.Common.{rules}
-use Rattle.blocks.specs.Checks.{rests_start, rests_lent, rests_end, block_within, part_within}
-use Rattle.blocks.specs.Code.{product_small, row_small}
+use Rattle.blocks.specs.Checks.{rests_start, rests_lent, rests_end, block_within}
+use Rattle.blocks.specs.Code.{row_small}
 use Rattle.blocks.proofs.block_checks.Goals as goal
 
 pub loop-i-init : goal.loop-i-init

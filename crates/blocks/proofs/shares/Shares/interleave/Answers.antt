@@ -1,56 +1,44 @@
 -- `blocks::shares::Shares::interleave` meets its contract.
 -- Assumes nothing.
-use Prim.Native.Nat.{◌+◌}
-use native.Mathlib.Omega.{arith}
+use Prim.Native.Nat.{ℕ}
 use lib.ListN.{length}
-use Rattle.std.proofs.Common.{rules}
+use mathlib.Core.Path.{sym, ap, ◌∙◌}
+use native.Mathlib.Omega.{arith}
+use Rattle.std.proofs.Common.{zero-mul}
 use Rattle.laws.specs.Each.{each_start, each_end}
-use Rattle.blocks.specs.Code.{row_small, source_lt, source_next}
-use Rattle.blocks.specs.Running.{stands_start, stands_next, stands_turn, stands_as, stands_source}
+use Rattle.blocks.specs.Undo.{place_in}
+use Rattle.blocks.specs.Running.{first_within, stands, column_start, column_end, column_last, place_inside}
+use Rattle.blocks.specs.Code.{each_at, source_turn}
 use Rattle.blocks.proofs.shares.Shares.interleave.Goals as goal
-use Rattle.blocks.proofs.shares.Shares.interleave.Goals.{then-i-self, else-i-self}
 
-pub loop-x-init : goal.loop-x-init
-loop-x-init c = (search (each_start, rules), λ _. stands_start c.args.self.shape)
+pub loop-c-init : goal.loop-c-init
+loop-c-init c = each_at _ _ _ _ _ (each_start _ c.args.out.now) (omega (arith, zero-mul c.args.self.numblocks))
 
-pub block_start-requires : goal.block_start-requires
-block_start-requires c = let h = c.loop-x.invariant.1 c.loop-x-test.true in h.block
+pub loop-i-init : goal.loop-i-init
+loop-i-init c =
+    let s = c.args.self in
+    each_at _ _ _ _ _ c.loop-c.invariant
+    (sym (column_start s.shape c.loop-c.c (omega arith)) ∙ ap (λ (i : ℕ). place_in s.numblocks s.shortdatlen s.numshortblocks i c.loop-c.c) (sym c.first_block-i.ensures))
 
-pub overflow_add-x : goal.overflow_add-x
-overflow_add-x c =
-    let t = c.loop-x in
-    let h = t.invariant.1 c.loop-x-test.true in
-    let e = stands_source c.args.self.shape t.i t.c t.x-index c.block_start.result h c.block_start.ensures in
-    omega (arith, e, source_lt c.args.self.shape t.x-index (omega arith), row_small c.args.self.shortdatlen c.args.self.numblocks (omega arith) (omega arith))
+pub place-requires : goal.place-requires
+place-requires c =
+    let w = stands c.args.self.shape c.loop-i.i c.loop-c.c (omega arith) (omega arith) (rw c.first_block-i.ensures at c.loop-i.auto.i) in record { within = (w.block, w.column); long = w.long }
 
-pub bounds-data-block_start : goal.bounds-data-block_start
-bounds-data-block_start c =
-    let t = c.loop-x in
-    let r = c.block_start in
-    let h = t.invariant.1 c.loop-x-test.true in
-    let e = stands_source c.args.self.shape t.i t.c t.x-index r.result h r.ensures in
-    omega (arith, e, source_lt c.args.self.shape t.x-index (omega arith))
+pub bounds-out-place : goal.bounds-out-place
+bounds-out-place c =
+    omega (arith, c.place.ensures, place_inside c.args.self.shape c.loop-i.i c.loop-c.c (omega arith) (omega arith) (rw c.first_block-i.ensures at c.loop-i.auto.i))
 
-pub overflow_add-i : goal.overflow_add-i
-overflow_add-i c = let h = c.loop-x.invariant.1 c.loop-x-test.true in omega (arith, h.block)
-
-pub overflow_add-c : goal.overflow_add-c
-overflow_add-c c = let h = c.loop-x.invariant.1 c.loop-x-test.true in omega (arith, h.column)
-
-pub loop-x-preserved : goal.loop-x-preserved
-loop-x-preserved c =
-    let t = c.loop-x in
+pub loop-i-preserved : goal.loop-i-preserved
+loop-i-preserved c =
     let a = c.args in
-    let r = c.block_start in
-    let h = t.invariant.1 c.loop-x-test.true in (
-      source_next a.self.numblocks a.self.shortdatlen a.self.numshortblocks a.«data».now a.out.now t.x-index (r.result + t.c) (length a.out.now) t.out t.invariant.0 t.auto.out c.loop-x-test.true
-          (stands_source c.args.self.shape t.i t.c t.x-index r.result h r.ensures),
-      λ more.
-          elim c.if-i-self.branch [
-            | then-i-self w ↦ stands_as w.i-is w.c-is (stands_turn c.args.self.shape t.i t.c t.x-index w.first_block-i.result h w.if-i-self.true w.first_block-i.ensures (omega arith))
-            | else-i-self w ↦ stands_as w.i-is w.c-is (stands_next c.args.self.shape t.i t.c t.x-index h w.if-i-self.false)
-          ],
-    )
+    source_turn a.self.shape a.«data».now a.out.now c.loop-i.out c.loop-i.i c.loop-c.c c.block_start.result c.place.result (omega arith) c.block_start.ensures c.place.ensures
+    (omega arith) (omega arith) (rw c.first_block-i.ensures at c.loop-i.auto.i) c.loop-i.invariant
+
+pub loop-c-preserved : goal.loop-c-preserved
+loop-c-preserved c =
+    let k = c.args.self.shape in
+    each_at _ _ _ _ _ c.loop-i.invariant
+    (column_end k c.loop-i.i c.loop-c.c (omega arith) (omega (arith, c.first_block-i.ensures, first_within k c.loop-c.c)) (omega arith))
 
 pub returns : goal.returns
-returns c = search (each_end, rules)
+returns c = each_end _ _ _ (length c.args.out.now) c.loop-c.out c.loop-c.invariant (omega arith) (omega (arith, column_last c.args.self.shape c.loop-c.c (omega arith)))

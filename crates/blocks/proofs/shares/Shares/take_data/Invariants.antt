@@ -1,16 +1,23 @@
 -- `blocks::shares::Shares::take_data` meets its contract.
 -- Assumes nothing.
-use Prim.Native.Nat.{◌-◌, ◌≤◌, ◌<◌}
+use Prim.Native.Nat.{◌+◌}
 use mathlib.Core.Path.{◌≡◌}
-use lib.ListN.{length, get_or}
+use lib.ListN.{get_or}
 use Rattle.laws.specs.Each.{each_done}
+use Rattle.blocks.specs.Shape.{start_in}
 use Rattle.blocks.specs.Undo.{position_in}
-use Rattle.blocks.specs.Running.{Within}
 use Rattle.blocks.proofs.shares.Shares.take_data.Given as goal
 
-abbrev pub invariant-loop-x : goal.invariant-loop-x
-invariant-loop-x l =
+abbrev pub invariant-loop-i : goal.invariant-loop-i
+invariant-loop-i l =
     let n = l.self.numblocks in
     let s = l.self.shortdatlen in
     let b = l.self.numshortblocks in
-    (l.out ≡ each_done l.x-index (λ d _. get_or l.all (position_in n s b d) 0) l.initial.out) × (l.x-index < length l.initial.out → Within n s b l.i l.c l.x-index)
+    l.out ≡ each_done (start_in s b l.i) (λ d _. get_or l.all (position_in n s b d) 0) l.fn.out
+
+abbrev pub invariant-loop-c : goal.invariant-loop-c
+invariant-loop-c l =
+    let n = l.self.numblocks in
+    let s = l.self.shortdatlen in
+    let b = l.self.numshortblocks in
+    l.out ≡ each_done (l.start + l.c) (λ d _. get_or l.all (position_in n s b d) 0) l.fn.out
