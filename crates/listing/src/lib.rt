@@ -9,17 +9,7 @@ ghost use Rattle.listing.specs.Shown.{modules_of, hex_digit, hex_of, digest_of, 
 pub fn is_modules(line: &[u8], grid: &[u8]) -> bool
     ensures { result ≡ same line.now (modules_of grid.now) }
 {
-    if line.len() != grid.len() {
-        return false;
-    }
-    let mut i: usize = 0;
-    while i < grid.len() {
-        if line[i] != b'0' + grid[i] % 2 {
-            return false;
-        }
-        i += 1;
-    }
-    true
+    line.len() == grid.len() && line.iter().zip(grid).all(|(c, m)| *c == b'0' + *m % 2)
 }
 
 // The hexadecimal digit of a number below 16.
@@ -31,41 +21,25 @@ fn hex(n: u8) -> u8
 }
 
 // Whether two characters are the digits of a byte.
-fn is_byte(high: u8, low: u8, b: u8) -> bool
+pub fn is_byte(high: u8, low: u8, b: u8) -> bool
     ensures { result ≡ (eqb high (hex_digit (b / 16)) && eqb low (hex_digit (b % 16))) }
 {
-    if high != hex(b / 16) {
-        return false;
-    }
-    low == hex(b % 16)
+    high == hex(b / 16) && low == hex(b % 16)
 }
 
 // Whether characters are those of bytes: two hexadecimal digits each.
 pub fn is_hex(line: &[u8], bytes: &[u8]) -> bool
     ensures { result ≡ same line.now (hex_of bytes.now) }
 {
-    if line.len() / 2 != bytes.len() {
+    if line.len() != 2 * bytes.len() {
         return false;
     }
-    if line.len() % 2 != 0 {
-        return false;
-    }
-    let mut i: usize = 0;
-    while i < bytes.len() {
-        if is_byte(line[2 * i], line[2 * i + 1], bytes[i]) {
-            i += 1;
-        } else {
+    for (i, b) in bytes.iter().enumerate() {
+        if !is_byte(line[2 * i], line[2 * i + 1], *b) {
             return false;
         }
     }
     true
-}
-
-// A byte as a wider number.
-fn wide(b: u8) -> u64
-    ensures { (result ≡ b) × (result < 256) }
-{
-    b as u64
 }
 
 // A digest of bytes: each counts by its place.
@@ -73,10 +47,8 @@ pub fn digest(bytes: &[u8]) -> u32
     ensures { result ≡ digest_of bytes.now }
 {
     let mut h: u64 = 0;
-    let mut i: usize = 0;
-    while i < bytes.len() {
-        h = (h * 16777619 + wide(bytes[i]) + 1) % 4294967291;
-        i += 1;
+    for b in bytes {
+        h = (h * 16777619 + u64::from(*b) + 1) % 4294967291;
     }
     h as u32
 }
@@ -85,10 +57,5 @@ pub fn digest(bytes: &[u8]) -> u32
 pub fn four(n: u32) -> [u8; 4]
     ensures { result ≡ four_of n }
 {
-    [
-        (n / 16777216) as u8,
-        (n / 65536 % 256) as u8,
-        (n / 256 % 256) as u8,
-        (n % 256) as u8,
-    ]
+    n.to_be_bytes()
 }
