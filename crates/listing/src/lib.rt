@@ -1,9 +1,48 @@
-// What a line of a fixed list of answers shows: modules, bytes in hexadecimal digits, and digests. The programs replay_* compare with it.
+// What a line of a fixed list of answers shows: digits and levels, modules, bytes in hexadecimal digits, digests and pseudo-random bytes.
+// The programs replay_* read it and compare with it.
 #![tactic(auto)]
 
-ghost use Rattle.std.specs.Prelude.{◌≡◌, ◌&&◌, ◌/◌, ◌%◌, ◌<◌, eqb};
+ghost use Rattle.std.specs.Prelude.{◌≡◌, ◌&&◌, ◌/◌, ◌%◌, ◌<◌, ◌≤◌, eqb, slice_index, EachIndex, IfSome};
 ghost use Rattle.standard.specs.Numbers.{same};
+ghost use Rattle.types.specs.Numbers.{level_of};
 ghost use Rattle.listing.specs.Shown.{modules_of, hex_digit, hex_of, digest_of, four_of};
+ghost use Rattle.listing.specs.Cases.{decimal_of, level_shown, next_random, random_byte};
+
+use types::QrCodeEcc;
+
+/*---- What characters mean ----*/
+
+// The value of a digit; of any other character some number below 10 too.
+pub fn digit(c: u8) -> u8
+    ensures { result ≡ c % 16 % 10 }
+{
+    c % 16 % 10
+}
+
+// The value of a digit, if a character is one.
+pub fn decimal(c: u8) -> Option<u8>
+    ensures value { result ≡ decimal_of c }
+    ensures bound { IfSome result (λ n. n ≤ 9) }
+{
+    match c {
+        b'0'..=b'9' => Some(c - b'0'),
+        _ => None,
+    }
+}
+
+// The level of a digit; High for any other character.
+pub fn level(c: u8) -> QrCodeEcc
+    ensures { level_of result ≡ level_shown c }
+{
+    match c {
+        b'0' => QrCodeEcc::Low,
+        b'1' => QrCodeEcc::Medium,
+        b'2' => QrCodeEcc::Quartile,
+        _ => QrCodeEcc::High,
+    }
+}
+
+/*---- What is compared ----*/
 
 // Whether characters are those of modules: 0 light, 1 dark.
 pub fn is_modules(line: &[u8], grid: &[u8]) -> bool
@@ -58,4 +97,27 @@ pub fn four(n: u32) -> [u8; 4]
     ensures { result ≡ four_of n }
 {
     n.to_be_bytes()
+}
+
+/*---- Pseudo-random numbers ----*/
+
+// The next pseudo-random number, as the makers of the lists take them.
+pub fn next_random(x: u64) -> u64
+    requires { x < 2147483648 }
+    ensures value { result ≡ next_random x }
+    ensures bound { result < 2147483648 }
+{
+    (x * 1103515245 + 12345) % 2147483648
+}
+
+// Fills in pseudo-random bytes.
+pub fn fill_random(bytes: &mut [u8], seed: u64)
+    requires { seed < 2147483648 }
+    ensures { EachIndex bytes.new (λ k. slice_index bytes.new k ≡ random_byte seed k) }
+{
+    let mut x = seed;
+    for b in bytes.iter_mut() {
+        x = next_random(x);
+        *b = (x / 65536 % 256) as u8;
+    }
 }
