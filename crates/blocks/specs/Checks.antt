@@ -104,6 +104,15 @@ rests_turn g xs o h k s b i at len e f ea el =
     let d : at + len - at ≡ length_in s b i = omega arith in
     rests_next g xs o h k (remainder g (take (at + len - at) (drop at xs))) s b i e (rw (d, ea)) f
 
+-- the same where the part was lent: d bytes, as many as the divisor has
+pub rests_lent : (g xs o h r : List ℕ) (s b i d at len : ℕ) → length g ≡ d → h ≡ rests_in g s b xs i ++ drop (i * length g) o
+    → r ≡ remainder g (take (at + len - at) (drop at xs)) → at ≡ start_in s b i → len ≡ length_in s b i
+    → take (i * d) h ++ (r ++ drop (i * d + d - i * d) (drop (i * d) h)) ≡ rests_in g s b xs (i + 1) ++ drop ((i + 1) * length g) o
+rests_lent g xs o h r s b i d at len q e f ea el =
+    rw (← q)
+    (rests_turn g xs o h (take (i * length g) h ++ (r ++ drop (i * length g + length g - i * length g) (drop (i * length g) h))) s b i at len e
+    (mid h r (i * length g) (length g) ∙ ap (λ (l : List ℕ). take (i * length g) h ++ l ++ drop (i * length g + length g) h) f) ea el)
+
 -- the check bytes of all blocks, c for each
 abbrev pub checks_in : ℕ → ℕ → ℕ → List ℕ → ℕ → List ℕ
 checks_in c s b xs n = rests_in (divisor c) s b xs n

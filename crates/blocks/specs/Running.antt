@@ -1,14 +1,14 @@
--- Block i and byte c in it, running along with a place: of the interleaved data, column by column, and of the data, block by block.
+-- Byte c of block i: in the interleaved data, column by column, and in the data, block by block.
 -- n blocks, s data bytes in a short one, b short ones. Assumes nothing.
-use Rattle.std.specs.Prelude.{ℕ, ◌+◌, ◌-◌, ◌*◌, ◌/◌, ◌%◌, ◌≤◌, ◌<◌, ◌≡◌, ltb}
+use Rattle.std.specs.Prelude.{ℕ, ◌+◌, ◌-◌, ◌*◌, ◌/◌, ◌%◌, ◌≤◌, ◌<◌, min, ◌≡◌, ltb}
 use Rattle.std.proofs.Math.Bool.{cond}
-use Rattle.std.proofs.Common.{sym, ap₂, ◌∙◌, subst₂, mod-lt, zero-mul, add-mul, mul-add, mul_comm, arith, lt-ltb, le-ltb}
-use Rattle.std.proofs.Math.Path.{ap}
-use Rattle.std.proofs.Math.Arith.{lt_of_le-ne, digits_div, digits_mod, digits_lt}
+use Rattle.std.proofs.Common.{sym, ap₂, ◌∙◌, mod-lt, add-mul, mul-add, mul_comm, mul-le-mul_right, arith, lt-ltb, le-ltb}
+use Rattle.std.proofs.Math.Path.{refl, ap}
+use Rattle.std.proofs.Math.Arith.{digits_div, digits_mod, digits_lt}
 use Rattle.laws.specs.Tests.{split}
 use Rattle.blocks.specs.Shape.{Shape, data_in, start_in, source_in}
-use Rattle.blocks.specs.Undo.{place_in, position_in, source_place}
-use Rattle.blocks.specs.Checks.{length_in, length_long, length_short, next_start}
+use Rattle.blocks.specs.Undo.{place_in, position_in, place_lt, source_place}
+use Rattle.blocks.specs.Checks.{length_in, length_long, length_short}
 
 -- ---- place p of the interleaved data
 
@@ -27,9 +27,6 @@ place_late : (n s b i c : ℕ) → s ≤ c → place_in n s b i c ≡ s * n + (i
 unfolding place_in
 place_late n s b i c h = rw (le-ltb c s h)
 
-pub stands_as : {n s b i c p j e : ℕ} → j ≡ i → e ≡ c → Stands n s b i c p → Stands n s b j e p
-stands_as {n} {s} {b} {i} {c} {p} {j} {e} q r h = subst₂ (λ (x y : ℕ). Stands n s b x y p) (sym q) (sym r) h
-
 -- the first block that has a byte c
 abbrev pub first_in : ℕ → ℕ → ℕ → ℕ
 first_in s b c = cond (ltb c s) 0 b
@@ -41,62 +38,57 @@ pub first_late : (s b c : ℕ) → s ≤ c → b ≡ first_in s b c
 first_late s b c h = rw (le-ltb c s h)
 
 module _ {n s b : ℕ} (k : Shape n s b) where
-  pub stands_start : Stands n s b 0 0 0
-  stands_start =
+  pub first_within : (c : ℕ) → first_in s b c ≤ n
+  first_within c =
+      split c s
+      (λ l. let e : 0 ≡ first_in s b c = first_early s b c l in omega arith)
+      (λ l. let e : b ≡ first_in s b c = first_late s b c l in omega (arith, k.within))
+
+  pub stands : (i c : ℕ) → i < n → c ≤ s → first_in s b c ≤ i → Stands n s b i c (place_in n s b i c)
+  stands i c hi hc first =
       record {
-        block = k.some;
-        column = omega arith;
-        long = λ e. absurd (omega (arith, k.short));
-        here = place_early n s b 0 0 k.short ∙ omega (arith, zero-mul n);
+        block = hi;
+        column = hc;
+        long = λ e. let l : b ≡ first_in s b c = first_late s b c (omega arith) in omega arith;
+        here = refl;
       }
 
-  pub stands_next : (i c p : ℕ) → Stands n s b i c p → (i + 1 ≡ n → ⊥) → Stands n s b (i + 1) c (p + 1)
-  stands_next i c p h more =
-      record {
-        block = lt_of_le-ne (omega (arith, h.block)) more;
-        column = h.column;
-        long = λ e. let l = h.long e in omega arith;
-        here = split c s
-            (λ l. place_early n s b (i + 1) c l ∙ omega (arith, h.here, place_early n s b i c l))
-            (λ l. let m : b ≤ i = h.long (omega (arith, h.column)) in place_late n s b (i + 1) c l ∙ omega (arith, h.here, place_late n s b i c l));
-      }
+  pub place_inside : (i c : ℕ) → i < n → c ≤ s → first_in s b c ≤ i → place_in n s b i c < data_in n s b
+  place_inside i c hi hc first = let w = stands i c hi hc first in place_lt k i c hi hc w.long
 
-  -- the next column begins at its first block
-  pub stands_turn : (i c p j : ℕ) → Stands n s b i c p → i + 1 ≡ n → j ≡ first_in s b (c + 1) → p + 1 < data_in n s b → Stands n s b j (c + 1) (p + 1)
-  stands_turn i c p j h e q inside = split c s early late
-    where
-      early : c < s → Stands n s b j (c + 1) (p + 1)
-      early l = split (c + 1) s whole last
-        where
-          row : p + 1 ≡ (c + 1) * n
-          row = omega (arith, h.here, place_early n s b i c l, add-mul c 1 n)
+  -- a column begins where the one before it ends, and its places follow one another
+  pub column_start : (c : ℕ) → c ≤ s → place_in n s b (first_in s b c) c ≡ min (c * n) (data_in n s b)
+  column_start c hc =
+      let m : c * n ≤ s * n = mul-le-mul_right n hc in
+      split c s
+      (λ l. ap (λ (j : ℕ). place_in n s b j c) (sym (first_early s b c l)) ∙ place_early n s b 0 c l ∙ omega arith)
+      (λ l.
+      let e : c ≡ s = omega arith in
+      let f : c * n ≡ s * n = ap (λ (t : ℕ). t * n) e in
+      ap (λ (j : ℕ). place_in n s b j c) (sym (first_late s b c l)) ∙ place_late n s b b c l ∙ omega arith)
 
-          whole : c + 1 < s → Stands n s b j (c + 1) (p + 1)
-          whole m =
-              let z : j ≡ 0 = q ∙ sym (first_early s b (c + 1) m) in
-              record {
-                block = omega (arith, k.some);
-                column = omega arith;
-                long = λ f. absurd (omega arith);
-                here = place_early n s b j (c + 1) m ∙ omega (arith, row);
-              }
+  pub place_next : (i c : ℕ) → c ≤ s → first_in s b c ≤ i → place_in n s b i c + 1 ≡ place_in n s b (i + 1) c
+  place_next i c hc first =
+      split c s
+      (λ l. omega (arith, place_early n s b i c l, place_early n s b (i + 1) c l))
+      (λ l. let m : b ≡ first_in s b c = first_late s b c l in omega (arith, place_late n s b i c l, place_late n s b (i + 1) c l))
 
-          last : s ≤ c + 1 → Stands n s b j (c + 1) (p + 1)
-          last m =
-              let z : j ≡ b = q ∙ sym (first_late s b (c + 1) m) in
-              let f : c + 1 ≡ s = omega arith in
-              let g : (c + 1) * n ≡ s * n = ap (λ (t : ℕ). t * n) f in
-              record {
-                block = omega (arith, row, g);
-                column = omega arith;
-                long = λ _. omega arith;
-                here = place_late n s b j (c + 1) m ∙ omega (arith, row, g);
-              }
+  pub column_end : (i c : ℕ) → c ≤ s → i ≤ n → n ≤ i → place_in n s b i c ≡ min ((c + 1) * n) (data_in n s b)
+  column_end i c hc low high =
+      let m : (c + 1) * n ≡ c * n + n = omega (arith, add-mul c 1 n) in
+      split c s
+      (λ l. let h : (c + 1) * n ≤ s * n = mul-le-mul_right n (omega arith) in place_early n s b i c l ∙ omega arith)
+      (λ l.
+      let e : c ≡ s = omega arith in
+      let f : c * n ≡ s * n = ap (λ (t : ℕ). t * n) e in
+      place_late n s b i c l ∙ omega (arith, k.within))
 
-      late : s ≤ c → Stands n s b j (c + 1) (p + 1)
-      late l =
-          let m : b ≤ i = h.long (omega (arith, h.column)) in
-          absurd (omega (arith, h.here, place_late n s b i c l))
+  -- behind the last column stands nothing
+  pub column_last : (c : ℕ) → s < c → data_in n s b ≤ min (c * n) (data_in n s b)
+  column_last c l =
+      let m : (s + 1) * n ≡ s * n + n = omega (arith, add-mul s 1 n) in
+      let h : (s + 1) * n ≤ c * n = mul-le-mul_right n (omega arith) in
+      omega arith
 
   pub stands_source : (i c p at : ℕ) → Stands n s b i c p → at ≡ start_in s b i → at + c ≡ source_in n s b p
   stands_source i c p at h e =
@@ -115,37 +107,24 @@ pub record Within (n s b i c d : ℕ) : Type 0 where
   pub byte : c < length_in s b i
   pub here : start_in s b i + c ≡ d
 
-pub within_as : {n s b i c d j e : ℕ} → j ≡ i → e ≡ c → Within n s b i c d → Within n s b j e d
-within_as {n} {s} {b} {i} {c} {d} {j} {e} q r h = subst₂ (λ (x y : ℕ). Within n s b x y d) (sym q) (sym r) h
-
 module _ {n s b : ℕ} (k : Shape n s b) where
-  -- a block has one byte at least
-  some_byte : (i : ℕ) → 0 < length_in s b i
-  some_byte i = omega (arith, k.short)
+  pub within : (i c : ℕ) → i < n → c < length_in s b i → Within n s b i c (start_in s b i + c)
+  within i c hi hc = record { block = hi; byte = hc; here = refl }
 
-  pub within_start : Within n s b 0 0 0
-  within_start = record { block = k.some; byte = some_byte 0; here = omega (arith, zero-mul s) }
-
-  pub within_next : (i c d : ℕ) → Within n s b i c d → (c + 1 ≡ length_in s b i → ⊥) → Within n s b i (c + 1) (d + 1)
-  within_next i c d h more = record { block = h.block; byte = lt_of_le-ne (omega (arith, h.byte)) more; here = omega (arith, h.here) }
-
-  -- the next block
-  pub within_turn : (i c d : ℕ) → Within n s b i c d → c + 1 ≡ length_in s b i → d + 1 < data_in n s b → Within n s b (i + 1) 0 (d + 1)
-  within_turn i c d h e inside =
-      record {
-        block = lt_of_le-ne (omega (arith, h.block)) (λ last. absurd (omega (arith, h.here, next_start s b i, whole last)));
-        byte = some_byte (i + 1);
-        here = omega (arith, h.here, next_start s b i);
-      }
-    where
-      whole : i + 1 ≡ n → start_in s b (i + 1) ≡ data_in n s b
-      whole last = ap (λ (m : ℕ). m * s + (m - b)) last ∙ ap (λ (m : ℕ). m + (n - b)) (mul_comm n s)
+  -- behind the last block stands nothing
+  pub start_end : (i : ℕ) → i ≤ n → n ≤ i → start_in s b i ≡ data_in n s b
+  start_end i low high =
+      let e : i ≡ n = omega arith in
+      ap (start_in s b) e ∙ omega (arith, mul_comm n s)
 
   pub within_column : (i c d : ℕ) → Within n s b i c d → (c ≤ s) × (c ≡ s → b ≤ i)
   within_column i c d h =
       split i b
       (λ l. let e = length_short s b i l in (omega (arith, h.byte), λ f. absurd (omega (arith, h.byte))))
       (λ l. let e = length_long s b i l in (omega (arith, h.byte), λ f. l))
+
+  pub within_place : (i c : ℕ) → i < n → c < length_in s b i → place_in n s b i c < data_in n s b
+  within_place i c hi hc = let w = within_column i c (start_in s b i + c) (within i c hi hc) in place_lt k i c hi w.0 w.1
 
   pub within_position : (i c d at : ℕ) → Within n s b i c d → at ≡ place_in n s b i c → at ≡ position_in n s b d
   unfolding position_in

@@ -46,7 +46,7 @@ module _ {n s b : ℕ} (k : Shape n s b) where
           let q : c ≡ s = omega (arith, ltb-false c s e) in
           source_last i (later q) hi ∙ ap (λ (m : ℕ). start_in s b i + m) (sym q)
 
-  place_lt : (i c : ℕ) → i < n → c ≤ s → (c ≡ s → b ≤ i) → place_in n s b i c < data_in n s b
+  pub place_lt : (i c : ℕ) → i < n → c ≤ s → (c ≡ s → b ≤ i) → place_in n s b i c < data_in n s b
   unfolding place_in
   place_lt i c hi hc later = go (ltb c s) refl
     where

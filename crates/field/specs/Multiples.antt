@@ -2,7 +2,7 @@
 -- of the products by its two halves. Assumes nothing.
 use Rattle.std.specs.Prelude.{◌≡◌, refl, Bool, List, [], ◌∷◌, ◌++◌, ℕ, zero, suc, ◌+◌, ◌-◌, ◌*◌, ◌/◌, ◌%◌, ◌^◌, ◌≤◌, ◌<◌, eqb, set, take}
 use Rattle.std.proofs.Math.Path.{sym, ap}
-use Rattle.std.proofs.Common.{ap₂, ◌∙◌, subst, zero-mul, pow-suc, eqb→eq, lit<, length-append, length-drop, ext_get_or, get_or-take, length-take-le, take_all, take_at, drop_at, take-suc, take-suc-set}
+use Rattle.std.proofs.Common.{ap₂, ◌∙◌, subst, zero-mul, pow-suc, eqb→eq, lit<, append-nil, length-append, length-drop, ext_get_or, get_or-take, length-take-le, take_all, take_at, drop_at, take-suc, take-suc-set}
 use native.Mathlib.Omega.{arith}
 use Rattle.std.proofs.Math.Arith.{digits_div, digits_mod}
 use Rattle.std.specs.Int.Bits.{bit_xor, xor_shifted}
@@ -76,16 +76,24 @@ length_wide : (p : List ℕ) → length p ≤ 32 → length (wide p) ≡ 32
 unfolding wide
 length_wide p h = length-append p (zeros (32 - length p)) ∙ omega (arith, length-replicate {A = ℕ} (32 - length p) 0)
 
-pub wide_turn : (p o : List ℕ) (j v : ℕ) → o ≡ front j (wide p) (zeros 32) → length p ≤ 32 → j < length p → v ≡ get_or p j 0
-    → set o j v ≡ front (j + 1) (wide p) (zeros 32)
-wide_turn p o j v e few h q =
-    ap (λ (l : List ℕ). set l j v) e ∙ front_suc (wide p) (zeros 32) j v (length_wide p few) (omega arith) (q ∙ sym (wide_alike p j))
-
-pub wide_end : (p o : List ℕ) (j : ℕ) → o ≡ front j (wide p) (zeros 32) → length p ≤ 32 → j ≡ length p → o ≡ wide p
+-- as the code has it: p written over the start of 32 zeros
+pub wide_written : (p o : List ℕ) → o ≡ p → length p ≤ 32 → o ++ drop (length p - 0) (zeros 32) ≡ wide p
 unfolding wide
-wide_end p o j e few q =
-    e ∙ ap (λ (k : ℕ). front k (wide p) (zeros 32)) q
-    ∙ ap₂ (λ (a b : List ℕ). a ++ b) (take_at p (zeros (32 - length p)) (length p) refl) (drop_zeros (length p) 32 few)
+wide_written p o e few =
+    let z : length p - 0 ≡ length p = omega arith in
+    ap₂ (λ (a b : List ℕ). a ++ b) e (ap (λ (k : ℕ). drop k (zeros 32)) z ∙ drop_zeros (length p) 32 few)
+
+wide_full : (p : List ℕ) → length p ≡ 32 → wide p ≡ p
+unfolding wide
+wide_full p h =
+    let z : 32 - length p ≡ 0 = omega arith in
+    ap (λ (k : ℕ). p ++ zeros k) z ∙ append-nil p
+
+-- a copy of 32 coefficients from some place on
+pub wide_part : (r h : List ℕ) (at : ℕ) → at + 32 ≤ length r → h ≡ wide (take (at + 32 - at) (drop at r)) → h ≡ take 32 (drop at r)
+wide_part r h at b e =
+    let z : at + 32 - at ≡ 32 = omega arith in
+    e ∙ ap (λ (k : ℕ). wide (take k (drop at r))) z ∙ wide_full (take 32 (drop at r)) (length-take-le 32 (drop at r) (omega (arith, length-drop at r)))
 
 -- c times that, coefficient by coefficient
 unfoldable pub padded : ℕ → List ℕ → List ℕ

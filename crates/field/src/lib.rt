@@ -1,7 +1,7 @@
 // The field of 256 elements, bytes modulo 11D (hex), and Reed-Solomon check bytes over it.
 #![tactic(auto)]
 
-ghost use Rattle.std.specs.Prelude.{◌≡◌, ◌+◌, ◌*◌, ◌<◌, ◌≤◌, length, get_or, take, drop};
+ghost use Rattle.std.specs.Prelude.{ℕ, ◌≡◌, ◌+◌, ◌*◌, ◌<◌, ◌≤◌, length, get_or, take, drop};
 ghost use Rattle.standard.specs.Field.{double as double_of, times, scale, remainder, divisor as divisor_of};
 ghost use Rattle.field.specs.Generator.{times_root};
 ghost use Rattle.field.specs.Multiples.{multiples_of, wide, padded, Tables, step_in};
@@ -16,23 +16,45 @@ pub fn reed_solomon_compute_divisor(out: &mut [u8])
     let mut wide: [u8; 33] = [0; 33];
     wide[31] = 1;
     let mut root: u8 = 1;
-    let mut i = 0;
-    while i < degree {
+    for _ in 0..degree {
         times_root(&mut wide, root);
         root = reed_solomon_multiply(root, 0x02);
-        i += 1;
     }
-    let first = 32 - degree;
-    copy(&wide[first..32], out);
+    out.copy_from_slice(&wide[32 - degree..32]);
 }
 
 // Multiplies 32 coefficients, after which a zero stands, by (x - root), and drops the highest one.
-fn times_root(wide: &mut [u8], root: u8)
-    requires { (length wide.old ≡ 33) × (get_or wide.old 32 0 ≡ 0) }
+fn times_root(wide: &mut [u8; 33], root: u8)
+    requires { get_or wide.old 32 0 ≡ 0 }
     ensures { wide.new ≡ times_root root wide.old }
 {
     for j in 0usize..32 {
         wide[j] = reed_solomon_multiply(wide[j], root) ^ wide[j + 1];
+    }
+}
+
+// A divisor polynomial without its leading one, and its multiples: `low` has those by 0 to 15, and `high` those by 16 times that.
+#[derive(Drop)]
+pub struct Divisor<'a> {
+    coefficients: &'a [u8],
+    low: [u8; 512],
+    high: [u8; 512],
+    pub ghost degree: { (0 < length coefficients.now) × (length coefficients.now ≤ 32) },
+    pub ghost bytes: { (i : ℕ) → get_or coefficients.now i 0 < 256 },
+    pub ghost tables: { Tables coefficients.now low high },
+}
+
+impl<'a> Divisor<'a> {
+    // Makes the multiples.
+    pub fn new(coefficients: &'a [u8]) -> Divisor<'a>
+        requires { (0 < length coefficients.now) × (length coefficients.now ≤ 32) }
+        ensures { result.coefficients.now ≡ coefficients.now }
+    {
+        Divisor {
+            coefficients,
+            low: multiples(coefficients, 1),
+            high: multiples(coefficients, 16),
+        }
     }
 }
 
@@ -43,50 +65,34 @@ pub fn multiples(divisor: &[u8], c: u8) -> [u8; 512]
 {
     let base = scaled(divisor, c);
     let mut rows: [u8; 512] = [0; 512];
-    let mut n: usize = 1;
-    while n < 16 {
+    for n in 1usize..16 {
         next_row(&mut rows, &base, n);
-        n += 1;
     }
     rows
 }
 
 // Makes row n of row n / 2: twice that, and the polynomial once more where n is odd.
-fn next_row(rows: &mut [u8], base: &[u8], n: usize)
-    requires rows_len { (length rows.old ≡ 512) × (length base.now ≡ 32) × (0 < n) × (n < 16) }
-    requires rows_value { take (n * 32) rows.old ≡ take (n * 32) (multiples_of base.now) }
+fn next_row(rows: &mut [u8; 512], base: &[u8; 32], n: usize)
+    requires number { (0 < n) × (n < 16) }
+    requires rows { take (n * 32) rows.old ≡ take (n * 32) (multiples_of base.now) }
     ensures { take ((n + 1) * 32) rows.new ≡ take ((n + 1) * 32) (multiples_of base.now) }
 {
-    let half = row_of(rows, n / 2);
-    let at = n * 32;
+    let at = n / 2 * 32;
+    let half = widened(&rows[at..at + 32]);
     let odd = (n % 2) as u8;
     for j in 0usize..32 {
-        rows[at + j] = double(half[j]) ^ odd * base[j];
+        rows[n * 32 + j] = double(half[j]) ^ odd * base[j];
     }
 }
 
-// A copy of row n: of a copy, many coefficients of another row can be made at a time.
-fn row_of(rows: &[u8], n: usize) -> [u8; 32]
-    requires { (length rows.now ≡ 512) × (n < 16) }
-    ensures { result ≡ take 32 (drop (n * 32) rows.now) }
+// The coefficients, and zeros after them, in a row of their own: of a copy, many coefficients of another row can be made at a time.
+fn widened(coefficients: &[u8]) -> [u8; 32]
+    requires { length coefficients.now ≤ 32 }
+    ensures { result ≡ wide coefficients.now }
 {
-    let at = n * 32;
-    let end = at + 32;
-    let mut out: [u8; 32] = [0; 32];
-    copy(&rows[at..end], &mut out);
-    out
-}
-
-// The divisor with zeros after its coefficients.
-fn widened(divisor: &[u8]) -> [u8; 32]
-    requires { length divisor.now ≤ 32 }
-    ensures { result ≡ wide divisor.now }
-{
-    let mut out: [u8; 32] = [0; 32];
-    for j in 0..divisor.len() {
-        out[j] = divisor[j];
-    }
-    out
+    let mut row: [u8; 32] = [0; 32];
+    row[0..coefficients.len()].copy_from_slice(coefficients);
+    row
 }
 
 // The divisor times c, with zeros after its coefficients. The loop has a fixed length, so that many are made at a time.
@@ -94,40 +100,29 @@ fn scaled(divisor: &[u8], c: u8) -> [u8; 32]
     requires { length divisor.now ≤ 32 }
     ensures { result ≡ padded c divisor.now }
 {
-    let mut out = widened(divisor);
-    for j in 0usize..32 {
-        out[j] = reed_solomon_multiply(out[j], c);
+    let mut row = widened(divisor);
+    for x in row.iter_mut() {
+        *x = reed_solomon_multiply(*x, c);
     }
-    out
+    row
 }
 
 // Puts into `out` the Reed-Solomon error correction codewords of the given data and divisor polynomials.
-// `low` has the divisor's multiples, and `high` those of 16 times the divisor.
-pub fn reed_solomon_compute_remainder(
-    data: &[u8],
-    divisor: &[u8],
-    low: &[u8],
-    high: &[u8],
-    out: &mut [u8],
-)
-    requires out_nonzero { (0 < length out.old) × (length out.old ≡ length divisor.now) × (length divisor.now ≤ 32) }
-    requires tables { Tables divisor.now low.now high.now }
-    ensures { out.new ≡ remainder divisor.now «data».now }
+pub fn reed_solomon_compute_remainder(data: &[u8], divisor: &Divisor, out: &mut [u8])
+    requires { length out.old ≡ length divisor.now.coefficients.now }
+    ensures { out.new ≡ remainder divisor.now.coefficients.now «data».now }
 {
+    let degree = divisor.coefficients.len();
     let mut rest: [u8; 33] = [0; 33];
-    let mut i = 0;
-    while i < data.len() {
-        divide_step(&mut rest, low, high, data[i]);
-        i += 1;
+    for b in data {
+        divide_step(&mut rest, &divisor.low, &divisor.high, *b);
     }
-    let degree = divisor.len();
-    copy(&rest[0..degree], out);
+    out.copy_from_slice(&rest[0..degree]);
 }
 
 // One step of polynomial division: takes in the coefficient b. The product of the divisor by a factor
 // is the sum of its products by the factor's two halves.
-fn divide_step(rest: &mut [u8], low: &[u8], high: &[u8], b: u8)
-    requires { (length rest.old ≡ 33) × (length low.now ≡ 512) × (length high.now ≡ 512) }
+fn divide_step(rest: &mut [u8; 33], low: &[u8; 512], high: &[u8; 512], b: u8)
     ensures { rest.new ≡ step_in low.now high.now rest.old b }
 {
     let factor = (b ^ rest[0]) as usize;
@@ -138,24 +133,12 @@ fn divide_step(rest: &mut [u8], low: &[u8], high: &[u8], b: u8)
     }
 }
 
-// Copies as many bytes as `out` has.
-fn copy(from: &[u8], out: &mut [u8])
-    requires { length from.now ≡ length out.old }
-    ensures { out.new ≡ from.now }
-{
-    for j in 0..out.len() {
-        out[j] = from[j];
-    }
-}
-
 // Returns the product of the two given field elements modulo GF(2^8/0x11D), by shifts and sums.
 fn reed_solomon_multiply(x: u8, y: u8) -> u8
     ensures { result ≡ times x y }
 {
     let mut z: u8 = 0;
-    let mut i: u8 = 8;
-    while 0 < i {
-        i -= 1;
+    for i in (0u8..8).rev() {
         z = double(z);
         z ^= ((y >> i) & 1) * x;
     }

@@ -1,50 +1,34 @@
 -- `blocks::block_checks` meets its contract.
 -- Assumes nothing.
+use Prim.Native.Nat.{ℕ, ◌*◌}
+use mathlib.Core.Path.{sym, ap, ◌∙◌}
 use native.Mathlib.Omega.{arith}
-use lib.ListN.{length}
 use Rattle.std.proofs.Common.{rules}
-use Rattle.blocks.specs.Checks.{rests_start, rests_turn, rests_end, next_start, block_within, part_within}
-use Rattle.blocks.specs.Code.{product_small, row_small}
+use Rattle.blocks.specs.Checks.{rests_start, rests_lent, rests_end, block_within}
+use Rattle.blocks.specs.Code.{row_small}
 use Rattle.blocks.proofs.block_checks.Goals as goal
 
 pub loop-i-init : goal.loop-i-init
-loop-i-init c = (search (rests_start, rules), omega arith, search rules, search rules)
+loop-i-init c = search (rests_start, rules)
 
 pub overflow_add-end : goal.overflow_add-end
 overflow_add-end c =
-    let t = c.loop-i in
-    omega (arith, block_within c.requires.shape.0 t.i (omega arith), row_small c.args.shortdatlen c.args.numblocks (omega arith) (omega arith))
-
-pub overflow_mul-i : goal.overflow_mul-i
-overflow_mul-i c =
-    let t = c.loop-i in
-    omega (arith, product_small t.i (length c.args.rsdiv.now) (omega arith) (omega arith))
-
-pub block_check-requires : goal.block_check-requires
-block_check-requires c =
-    let t = c.loop-i in record {
-      at_le_end = (
-        omega arith,
-        omega (arith, block_within c.requires.shape.0 t.i (omega arith)),
-        search rules,
-        search rules,
-        omega (arith, part_within c.args.numblocks (length c.args.rsdiv.now) t.i (omega arith)),
-      );
-      tables = c.requires.shape.3;
-    }
+    let s = c.args.shares in
+    omega (arith, block_within s.shape c.loop-i.i (omega arith), row_small s.shortdatlen s.numblocks (omega arith) (omega arith))
 
 pub loop-i-preserved : goal.loop-i-preserved
 loop-i-preserved c =
     let t = c.loop-i in
-    let a = c.args in (
-      rests_turn a.rsdiv.now a.«data».now a.out.now t.out _ a.shortdatlen a.numshortblocks t.i t.k c.block_length.result t.invariant.0 c.block_check.ensures t.invariant.1 c.block_length.ensures,
-      omega (arith, next_start a.shortdatlen a.numshortblocks t.i),
-      search rules,
-      search rules,
-    )
+    let a = c.args in
+    let g = a.divisor.now.coefficients.now in
+    let r = c.reed_solomon_compute_remainder in
+    rests_lent g a.«data».now a.out.now t.out r.new.out a.shares.shortdatlen a.shares.numshortblocks t.i a.shares.blockecclen c.block_start-start.result c.block_length.result
+    c.requires.degree t.invariant r.ensures c.block_start-start.ensures c.block_length.ensures
 
 pub returns : goal.returns
 returns c =
     let t = c.loop-i in
     let a = c.args in
-    rests_end a.rsdiv.now a.«data».now a.out.now t.out a.shortdatlen a.numshortblocks t.i a.numblocks t.invariant.0 (search rules) (search rules) (search rules)
+    let n = a.shares.numblocks in
+    rests_end a.divisor.now.coefficients.now a.«data».now a.out.now t.out a.shares.shortdatlen a.shares.numshortblocks t.i n t.invariant (omega arith) (omega arith)
+    (c.requires.lengths.1 ∙ ap (λ (k : ℕ). n * k) (sym c.requires.degree))

@@ -15,6 +15,8 @@ returns c =
     let d = c.interleave in
     let k = c.interleave-2 in
     let o = a.out.now in
-    two_parts _ _ (length a.«data».now) o d.new.out k.new.out d.ensures k.ensures (search rules)
-    ∙ ap (λ (checks : List ℕ). written_in a.numblocks a.shortdatlen a.numshortblocks a.blockecclen a.«data».now checks o)
+    let e = c.of_checks.ensures in
+    let second = simp (e.0, e.1, e.2) at k.ensures in
+    two_parts _ _ (length a.«data».now) o d.new.out k.new.out d.ensures second (search rules)
+    ∙ ap (λ (checks : List ℕ). written_in a.shares.numblocks a.shares.shortdatlen a.shares.numshortblocks a.shares.blockecclen a.«data».now checks o)
     c.all_checks.ensures

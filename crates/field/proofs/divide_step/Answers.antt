@@ -11,15 +11,6 @@ use Rattle.laws.specs.Front.{front, front_suc, front_rest}
 use Rattle.field.specs.Multiples.{step_in, get_d_step_in, length_step_in, front_step_in, high_row}
 use Rattle.field.proofs.divide_step.Goals as goal
 
-pub overflow_cast-factor : goal.overflow_cast-factor
-overflow_cast-factor c = Fits-under _ _ 256 (xor_lt 8 _ _ c.ranges.b.fits (c.type_inv.rest _).fits) tt
-
-pub overflow_mul-h : goal.overflow_mul-h
-overflow_mul-h c = Fits-under _ _ 512 (high_row _ (xor_lt 8 _ _ c.ranges.b.fits (c.type_inv.rest _).fits)) tt
-
-pub loop-j-init : goal.loop-j-init
-loop-j-init c = (search rules, search rules, xor_lt 8 _ _ c.ranges.b.fits (c.type_inv.rest _).fits, refl)
-
 pub loop-j-preserved : goal.loop-j-preserved
 loop-j-preserved c =
     let a = c.args in
@@ -34,13 +25,13 @@ loop-j-preserved c =
     let v = bit_xor (bit_xor (get_or o (j + 1) 0) l) h in
     let n : length s ≡ length r = length_step_in a.low.now a.high.now r a.b (search rules) in
     let e : v ≡ get_or s j 0
-    = ap (λ (x : ℕ). bit_xor (bit_xor x l) h) (ap (λ (x : List ℕ). get_or x (j + 1) 0) inv.3 ∙ front_rest s r j (j + 1) (omega arith) (omega arith))
+    = ap (λ (x : ℕ). bit_xor (bit_xor x l) h) (ap (λ (x : List ℕ). get_or x (j + 1) 0) inv.1 ∙ front_rest s r j (j + 1) (omega arith) (omega arith))
     ∙ sym (get_d_step_in a.low.now a.high.now r a.b j (omega arith)) in
-    (omega arith, length-set o j v ∙ inv.1, inv.2, ap (λ (x : List ℕ). set x j v) inv.3 ∙ front_suc s r j v n (omega arith) e)
+    (inv.0, ap (λ (x : List ℕ). set x j v) inv.1 ∙ front_suc s r j v n (omega arith) e)
 
 pub returns : goal.returns
 returns c =
     let a = c.args in
     let e : c.loop-j.j ≡ 32 = omega arith in
-    c.loop-j.invariant.3 ∙ ap (λ (n : ℕ). front n (step_in a.low.now a.high.now a.rest.now a.b) a.rest.now) e
+    c.loop-j.invariant.1 ∙ ap (λ (n : ℕ). front n (step_in a.low.now a.high.now a.rest.now a.b) a.rest.now) e
     ∙ front_step_in a.low.now a.high.now a.rest.now a.b

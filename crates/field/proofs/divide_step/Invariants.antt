@@ -8,7 +8,4 @@ use Rattle.field.specs.Multiples.{step_in}
 use Rattle.field.proofs.divide_step.Given as goal
 
 abbrev pub invariant-loop-j : goal.invariant-loop-j
-invariant-loop-j l = (l.j ≤ 32) × (length l.rest ≡ 33) × (l.factor < 256) × (l.rest ≡ front l.j (step_in l.low l.high l.initial.rest l.b) l.initial.rest)
-
-abbrev pub decreases-loop-j : goal.decreases-loop-j
-decreases-loop-j l = 32 - l.j
+invariant-loop-j l = (l.factor < 256) × (l.rest ≡ front l.j (step_in l.low l.high l.initial.rest l.b) l.initial.rest)

@@ -7,7 +7,4 @@ use Rattle.field.specs.Multiples.{multiples_of}
 use Rattle.field.proofs.multiples.Given as goal
 
 abbrev pub invariant-loop-n : goal.invariant-loop-n
-invariant-loop-n l = (0 < l.n) × (l.n ≤ 16) × (length l.base ≡ 32) × (length l.rows ≡ 512) × (take (l.n * 32) l.rows ≡ take (l.n * 32) (multiples_of l.base))
-
-abbrev pub decreases-loop-n : goal.decreases-loop-n
-decreases-loop-n l = 16 - l.n
+invariant-loop-n l = (length l.rows ≡ 512) × (take (l.n * 32) l.rows ≡ take (l.n * 32) (multiples_of l.base))

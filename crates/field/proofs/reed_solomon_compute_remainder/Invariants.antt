@@ -7,8 +7,5 @@ use Rattle.standard.specs.Field.{remainder}
 use Rattle.field.specs.Multiples.{Alike}
 use Rattle.field.proofs.reed_solomon_compute_remainder.Given as goal
 
-abbrev pub invariant-loop-i : goal.invariant-loop-i
-invariant-loop-i l = (l.i ≤ length l.«data») × (length l.rest ≡ 33) × Alike l.rest (remainder l.divisor (take l.i l.«data»))
-
-abbrev pub decreases-loop-i : goal.decreases-loop-i
-decreases-loop-i l = length l.«data» - l.i
+abbrev pub invariant-loop-b : goal.invariant-loop-b
+invariant-loop-b l = Alike l.rest (remainder l.divisor.coefficients.now (take l.b-index l.«data»))

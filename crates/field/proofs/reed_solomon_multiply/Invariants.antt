@@ -7,6 +7,3 @@ use Rattle.field.proofs.reed_solomon_multiply.Given as goal
 
 abbrev pub invariant-loop-i : goal.invariant-loop-i
 invariant-loop-i l = (l.i ≤ 8) × (l.z ≡ times_low (8 - l.i) l.x (l.y / 2 ^ l.i))
-
-abbrev pub decreases-loop-i : goal.decreases-loop-i
-decreases-loop-i l = l.i

@@ -1,24 +1,19 @@
 -- `field::scaled` meets its contract.
 -- Assumes nothing.
-use mathlib.Core.Path.{◌∙◌}
 use Rattle.std.proofs.Common.{rules}
-use lib.ListN.{length-set}
 use Rattle.field.specs.Multiples.{padded_start, padded_turn, padded_end}
 use Rattle.field.proofs.scaled.Goals as goal
 
-pub loop-j-init : goal.loop-j-init
-loop-j-init c =
-    let w = c.widened-out in
-    let p = padded_start c.args.c c.args.divisor.now w.result w.ensures c.requires in
-    (search rules, p.0, p.1)
+pub loop-x-init : goal.loop-x-init
+loop-x-init c =
+    let w = c.widened-row in
+    (padded_start c.args.c c.args.divisor.now w.result w.ensures c.requires).1
 
-pub loop-j-preserved : goal.loop-j-preserved
-loop-j-preserved c =
-    let r = c.reed_solomon_multiply in (
-      search rules,
-      length-set c.loop-j.out c.loop-j.j r.result ∙ c.loop-j.invariant.1,
-      padded_turn c.args.c c.args.divisor.now c.loop-j.out c.loop-j.j r.result c.loop-j.invariant.2 c.requires (search rules) r.ensures,
-    )
+pub loop-x-preserved : goal.loop-x-preserved
+loop-x-preserved c =
+    let t = c.loop-x in
+    let r = c.reed_solomon_multiply in
+    padded_turn c.args.c c.args.divisor.now t.x-items t.x-index r.result t.invariant c.requires (search rules) r.ensures
 
 pub returns : goal.returns
-returns c = padded_end c.args.c c.args.divisor.now c.loop-j.out c.loop-j.j c.loop-j.invariant.2 c.requires (search rules)
+returns c = let t = c.loop-x in padded_end c.args.c c.args.divisor.now t.x-items t.x-index t.invariant c.requires (search rules)

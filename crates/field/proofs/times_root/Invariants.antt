@@ -9,6 +9,3 @@ use Rattle.field.proofs.times_root.Given as goal
 
 abbrev pub invariant-loop-j : goal.invariant-loop-j
 invariant-loop-j l = (l.j ≤ 32) × (length l.wide ≡ 33) × (l.wide ≡ front l.j (times_root l.root l.initial.wide) l.initial.wide)
-
-abbrev pub decreases-loop-j : goal.decreases-loop-j
-decreases-loop-j l = 32 - l.j
