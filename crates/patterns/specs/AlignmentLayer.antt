@@ -1,19 +1,19 @@
 -- The alignment patterns, drawn centre by centre, are the layer of the definition.
 -- Assumes nothing.
-use Rattle.std.specs.Prelude.{ℕ, ◌+◌, ◌≤◌, ◌<◌, max, Bool, not, ◌&&◌, ◌||◌, ◌≡◌, List, ltb}
+use Rattle.std.specs.Prelude.{ℕ, ◌+◌, ◌≤◌, ◌<◌, max, Bool, not, ◌&&◌, ◌||◌, ◌≡◌, List, ltb, get_or}
 use Rattle.std.proofs.Math.Bool.{true, false, cond, and-false}
 use Rattle.std.proofs.Math.Path.{refl}
-use Rattle.std.proofs.Common.{◌∙◌, le_antisymm, arith}
+use Rattle.std.proofs.Common.{sym, ◌∙◌, le_antisymm, arith}
 use Rattle.std.proofs.Math.Dec.{eqb}
 use borrow.Author.Tests.{lt-ltb, le-ltb, eqb-true}
 use Rattle.standard.specs.Numbers.{apart, one}
 use Rattle.standard.specs.Sizes.{side, centres}
 use Rattle.standard.specs.Patterns.{ring, nearest, alignment, on_corner, on_alignment, alignment_colour}
 use Rattle.laws.specs.Grid.{Pattern, Square, on, paint, paint_ext, paint_none, scan, scan_start, scan_end}
-use Rattle.laws.specs.Tests.{leb_max}
+use Rattle.laws.specs.Tests.{leb_max, split}
 use Rattle.patterns.specs.Layers.{layer, alignments}
 use Rattle.patterns.specs.Shapes.{alignment_square}
-use Rattle.patterns.specs.Centres.{which_of, centre, corner, near_which, at_centre, distance, at_left, at_right}
+use Rattle.patterns.specs.Centres.{Positions, two, count, position, centres_length, which_of, centre, corner, near_which, at_centre, distance, at_left, at_right}
 
 corners_agree : (a b c d : Bool) → (a && (b || c)) || (d && b) ≡ cond a (cond b true c) (cond d b false)
 corners_agree true true c d = refl
@@ -131,13 +131,39 @@ module _ (v : ℕ) (g : List ℕ) where
       e ∙ rw (le_antisymm l m) (scan_end (side v) g sq.size (λ x y. true) (λ x y. which_of v x) (centres v) (alignments v) (λ x y w hx hy o. off_x v low high x y w hx hy o))
 
 -- version 1 has none
-pub none_at_1 : (g : List ℕ) → Square g 21 → g ≡ paint 21 (alignments 1) g
+none_at_1 : (x y w : ℕ) → alignments 1 x y w ≡ w
 unfolding layer on_alignment alignment nearest
-none_at_1 g sq = paint_none 21 g sq.size _ (λ x y hx hy. refl)
+none_at_1 x y w = refl
 
-pub none_at_one : (v : ℕ) (g : List ℕ) → v ≡ 1 → Square g (side v) → g ≡ paint (side v) (alignments v) g
-none_at_one v g e sq = rw e (none_at_1 g (rw e at sq))
+-- ---- as the code names sizes, positions and the version
 
--- the version as the code names it
-pub alignments_at : (v n : ℕ) (g h : List ℕ) → h ≡ paint (side n) (alignments n) g → n ≡ v → h ≡ paint (side v) (alignments v) g
-alignments_at v n g h e q = rw q at e
+module _ (v n : ℕ) (at : List ℕ) (low : 1 ≤ v) (high : v ≤ 40) (is : Positions v n at) where
+  module _ (i j : ℕ) (hi : i < n) (hj : j < n) where
+    few : n ≡ centres v
+    few = count v n at low high is i hi
+
+    pub turn : (size : ℕ) → size ≡ side v → (b : Bool) → b ≡ corner n i j → b ≡ false → (g h : List ℕ) → h ≡ paint size (alignment_square (get_or at i 0) (get_or at j 0)) g → Square g (side v)
+        → h ≡ paint (side v) (alignment_turn v i j) g
+    turn size same b e off g h f sq =
+        let c : corner (centres v) i j ≡ false = rw (← few) (sym e ∙ off) in
+        turn_drawn v i j (two v n at low high is i hi) high (omega (arith, few)) (omega (arith, few)) g h (rw (same, position v n at low high is i hi, position v n at low high is j hj) at f) sq c
+
+    pub no_turn : (b : Bool) → b ≡ corner n i j → b ≡ true → (g : List ℕ) → Square g (side v) → g ≡ paint (side v) (alignment_turn v i j) g
+    no_turn b e on g sq =
+        let c : corner (centres v) i j ≡ true = rw (← few) (sym e ∙ on) in
+        turn_skipped v i j (two v n at low high is i hi) high (omega (arith, few)) (omega (arith, few)) g sq c
+
+  pub next_row : (i j : ℕ) → i < n → (g h k : List ℕ) → h ≡ paint (side v) (alignment_rows v i) g → k ≡ paint (side v) (alignment_row v i j) h → j ≤ n → n ≤ j → Square h (side v)
+      → k ≡ paint (side v) (alignment_rows v (i + 1)) g
+  next_row i j hi g h k e f l m sq =
+      let c = count v n at low high is i hi in
+      rows_next v g i j h k e sq (two v n at low high is i hi) high f (omega (arith, c)) (omega (arith, c))
+
+  pub all_rows : (i : ℕ) (g h : List ℕ) → h ≡ paint (side v) (alignment_rows v i) g → i ≤ n → n ≤ i → Square g (side v) → h ≡ paint (side v) (alignments v) g
+  unfolding alignment_rows
+  all_rows i g h e l m sq = split v 2 one (λ t. rows_end v g i h e sq t high (omega (arith, is.0, centres_length v t high)) (omega (arith, is.0, centres_length v t high)))
+    where
+      one : v < 2 → h ≡ paint (side v) (alignments v) g
+      one t =
+          let k : v ≡ 1 = omega arith in
+          e ∙ scan_end (side v) g sq.size (λ x y. true) (λ x y. which_of v x) i (alignments v) (λ x y w hx hy o. rw k (none_at_1 x y w))

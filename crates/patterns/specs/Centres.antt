@@ -7,7 +7,7 @@ use Rattle.std.proofs.Math.Dec.{T, eqb→eq}
 use Rattle.standard.specs.Numbers.{apart, every}
 use Rattle.standard.specs.Sizes.{side, centres}
 use Rattle.standard.specs.Patterns.{nearest, alignment_step, alignment}
-use Rattle.laws.specs.Tests.{true_T, and_left, and_right, alike, alike_eq, implies, implies_use}
+use Rattle.laws.specs.Tests.{split, true_T, and_left, and_right, alike, alike_eq, implies, implies_use}
 use Rattle.laws.specs.Lists.{every_at}
 use Rattle.laws.specs.Computed.{among, each_of, below}
 
@@ -136,15 +136,31 @@ module _ (v i x : ℕ) (low : 2 ≤ v) (high : v ≤ 40) (few : i < centres v) (
   unfolding range_at
   centre_to = rw is (leb→le (centre v i + 7) (side v) (and_right (leb 6 (centre v i)) (leb (centre v i + 7) (side v)) in_range))
 
--- ---- positions in an array: its first elements are the centres
+-- ---- positions in an array: its first n elements are the centres
 
-pub record Positioned (v : ℕ) (at : List ℕ) : Type 0 where
-  pub each : (i : ℕ) → 2 ≤ v → v ≤ 40 → i < centres v → get_or at i 0 ≡ centre v i
+abbrev pub Positions : ℕ → ℕ → List ℕ → Type 0
+Positions v n at = (n ≡ length (alignment v)) × (at ≡ alignment v ++ replicate (7 - n) 0)
 
-pub positioned : (v n k : ℕ) (at : List ℕ) → (k ≡ length (alignment v)) × (at ≡ alignment v ++ replicate (7 - k) 0) → n ≡ v → Positioned n at
-positioned v n k at e q =
-    rw q
-    record {
-      each = λ i low high few.
-          ap (λ (l : List ℕ). get_or l i 0) e.1 ∙ get_or-append (alignment v) (replicate (7 - k) 0) 0 i (omega (arith, centres_length v low high));
-    }
+module _ (v n : ℕ) (at : List ℕ) (low : 1 ≤ v) (high : v ≤ 40) (is : Positions v n at) (i : ℕ) (few : i < n) where
+  -- version 1 has none
+  pub two : 2 ≤ v
+  unfolding alignment
+  two = split v 2 none (λ h. h)
+    where
+      none : v < 2 → 2 ≤ v
+      none h =
+          let one : v ≡ 1 = omega arith in
+          let empty : length (alignment v) ≡ 0 = ap (λ (k : ℕ). length (alignment k)) one in
+          absurd (omega (arith, is.0, empty))
+
+  pub count : n ≡ centres v
+  count = is.0 ∙ centres_length v two high
+
+  pub position : get_or at i 0 ≡ centre v i
+  position = ap (λ (l : List ℕ). get_or l i 0) is.1 ∙ get_or-append (alignment v) (replicate (7 - n) 0) 0 i (omega (arith, is.0))
+
+  -- the pattern lies in the grid
+  pub inside : (size : ℕ) → size ≡ side v → (2 ≤ get_or at i 0) × (get_or at i 0 + 2 < size)
+  inside size e =
+      let few' : i < centres v = omega (arith, count) in
+      (omega (arith, centre_from v i (get_or at i 0) two high few' position), omega (arith, centre_to v i (get_or at i 0) two high few' position))

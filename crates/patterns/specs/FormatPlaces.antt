@@ -1,6 +1,6 @@
 -- Where the format bits are drawn: bit i of the word in two copies, and the module that is always dark.
 -- Assumes nothing.
-use Rattle.std.specs.Prelude.{ℕ, ◌+◌, ◌-◌, Bool, cond, ◌≡◌, ltb, eqb}
+use Rattle.std.specs.Prelude.{ℕ, ◌+◌, ◌-◌, ◌<◌, Bool, cond, ◌≡◌, ltb, eqb}
 use Rattle.standard.specs.Numbers.{bit, one}
 use Rattle.laws.specs.Grid.{Pattern, then}
 use Rattle.laws.specs.Dots.{dot, dots}
@@ -16,6 +16,10 @@ second_x s i = cond (ltb i 8) (s - 1 - i) 8
 
 unfoldable pub second_y : ℕ → ℕ → ℕ
 second_y s i = cond (ltb i 8) 8 (s - 15 + i)
+
+-- the places that are answered for bits 0 to 14
+abbrev pub Places : (ℕ → ℕ × ℕ → Type 0) → (ℕ → ℕ) → (ℕ → ℕ) → Type 0
+Places post px py = (i : ℕ) (p : ℕ × ℕ) → i < 15 → post i p → (p.0 ≡ px i) × (p.1 ≡ py i)
 
 -- a function module that has bit i of the word
 abbrev pub word_bit : ℕ → ℕ → ℕ

@@ -1,14 +1,12 @@
 -- The squares that are drawn around a centre: a finder with its light line, and an alignment pattern.
 -- Assumes nothing.
-use Rattle.std.specs.Prelude.{ℕ, ◌+◌, ◌-◌, ◌*◌, ◌≤◌, ◌<◌, max, Bool, cond, not, ◌||◌, List, ◌≡◌, refl, leb, eqb, set}
-use Rattle.std.proofs.Common.{sym, ap₂, ◌∙◌, arith, le-leb}
-use Rattle.std.proofs.Math.Nat.{max-le}
+use Rattle.std.specs.Prelude.{ℕ, ◌+◌, ◌-◌, ◌≤◌, ◌<◌, min, Bool, true, false, cond, not, ◌||◌, List, ◌≡◌, refl, leb, ltb, eqb}
+use Rattle.std.proofs.Common.{ap, ◌∙◌, arith, le-leb, eqb-true}
 use Rattle.std.proofs.lemmas.Bool.{lt-leb}
-use Rattle.standard.specs.Numbers.{apart, one}
+use Rattle.standard.specs.Numbers.{one}
 use Rattle.standard.specs.Patterns.{ring}
-use Rattle.laws.specs.Grid.{Pattern, Square, paint}
-use Rattle.laws.specs.Box.{box_cell, box_in}
-use Rattle.laws.specs.Dots.{dot, dot_set}
+use Rattle.laws.specs.Grid.{Pattern, Square, on, paint, scan, scan_start, scan_end}
+use Rattle.laws.specs.Dots.{dot}
 
 -- the modules at most 4 away from the centre (cx, cy), light 2 and 4 away
 unfoldable pub finder : ℕ → ℕ → Pattern
@@ -18,54 +16,60 @@ finder cx cy x y v = cond (leb (ring x y cx cy) 4) (2 + one (not (eqb (ring x y 
 unfoldable pub alignment_square : ℕ → ℕ → Pattern
 alignment_square cx cy x y v = cond (leb (ring x y cx cy) 2) (2 + one (not (eqb (ring x y cx cy) 1))) v
 
-pub finder_off : (cx cy x y v : ℕ) → 4 < ring x y cx cy → finder cx cy x y v ≡ v
-unfolding finder
-finder_off cx cy x y v h = rw (lt-leb _ _ h)
+-- the modules at most r away from the centre (cx, cy), dark where the rule says so of how far away they are
+unfoldable pub square : ℕ → (ℕ → Bool) → ℕ → ℕ → Pattern
+square r rule cx cy x y v = cond (leb (ring x y cx cy) r) (2 + one (rule (ring x y cx cy))) v
 
-pub alignment_off : (cx cy x y v : ℕ) → 2 < ring x y cx cy → alignment_square cx cy x y v ≡ v
-unfolding alignment_square
-alignment_off cx cy x y v h = rw (lt-leb _ _ h)
+-- up to the distance r, what is answered is what the rule says
+abbrev pub Rules : (ℕ → Bool → Type 0) → ℕ → (ℕ → Bool) → Type 0
+Rules post r rule = (d : ℕ) (b : Bool) → d ≤ r → post d b → b ≡ rule d
 
--- a module by its offset, which counts from r before the centre
-shift : (r c d x : ℕ) → x + r ≡ c + d → apart x c ≡ apart d r
-shift r c d x e = omega arith
+-- row y up to column n, and the rows up to n
+pub cells_done : ℕ → ℕ → Pattern → Pattern
+cells_done y n p = on (λ a b. eqb b y) (on (λ a b. ltb a n) p)
 
-near : (r d : ℕ) → d < r * 2 + 1 → apart d r ≤ r
-near r d h = omega arith
+pub rows_done : ℕ → Pattern → Pattern
+rows_done n p = on (λ a b. ltb b n) p
 
-finder_at : (cx cy dx dy x y v : ℕ) → dx < 9 → dy < 9 → x + 4 ≡ cx + dx → y + 4 ≡ cy + dy
-    → 2 + one (not (eqb (max (apart dx 4) (apart dy 4)) 2 || eqb (max (apart dx 4) (apart dy 4)) 4)) ≡ finder cx cy x y v
-unfolding finder
-finder_at cx cy dx dy x y v hx hy ex ey =
-    let same : ring x y cx cy ≡ max (apart dx 4) (apart dy 4) = ap₂ max (shift 4 cx dx x ex) (shift 4 cy dy y ey) in
-    rw same (rw (le-leb (max (apart dx 4) (apart dy 4)) 4 (max-le (near 4 dx hx) (near 4 dy hy))))
+module _ (size r : ℕ) (rule : ℕ → Bool) (cx cy : ℕ) (g : List ℕ) where
+  off : (x y v : ℕ) → r < ring x y cx cy → square r rule cx cy x y v ≡ v
+  unfolding square
+  off x y v h = rw (lt-leb _ _ h)
 
-alignment_at : (cx cy dx dy x y v : ℕ) → dx < 5 → dy < 5 → x + 2 ≡ cx + dx → y + 2 ≡ cy + dy
-    → 2 + one (not (eqb (max (apart dx 2) (apart dy 2)) 1)) ≡ alignment_square cx cy x y v
-unfolding alignment_square
-alignment_at cx cy dx dy x y v hx hy ex ey =
-    let same : ring x y cx cy ≡ max (apart dx 2) (apart dy 2) = ap₂ max (shift 2 cx dx x ex) (shift 2 cy dy y ey) in
-    rw same (rw (le-leb (max (apart dx 2) (apart dy 2)) 2 (max-le (near 2 dx hx) (near 2 dy hy))))
+  pub rows_start : (n : ℕ) → n ≡ cy - r → Square g size → g ≡ paint size (rows_done n (square r rule cx cy)) g
+  unfolding rows_done
+  rows_start n e sq = scan_start size g sq.size (λ x y. true) (λ x y. y) n _ (λ x y v h. off x y v (omega arith))
 
--- ---- one module of a square is drawn
+  pub cells_start : (y n : ℕ) → n ≡ cx - r → Square g size → g ≡ paint size (cells_done y n (square r rule cx cy)) g
+  unfolding cells_done
+  cells_start y n e sq = scan_start size g sq.size (λ a b. eqb b y) (λ a b. a) n _ (λ a b v h. off a b v (omega arith))
 
-module _ (size cx cy dx dy : ℕ) (d : Bool) (g h : List ℕ) where
-  one_module : (r x y : ℕ) (p : Pattern) → h ≡ paint size (dot x y (2 + one d)) g → Square g size → x < size → y < size → x + r ≡ cx + dx → y + r ≡ cy + dy
-      → ((v : ℕ) → 2 + one d ≡ p x y v) → h ≡ paint size (box_cell r cx cy dx dy p) g
-  one_module r x y p e sq hx hy ex ey f =
-      e ∙ sym (dot_set size g (set g (y * size + x) (2 + one d)) x y (2 + one d) refl sq hx hy) ∙ box_in size r cx cy p g dx dy x y (2 + one d) sq hx hy ex ey (f _)
+  -- one module
+  pub cells_next : (x y d : ℕ) (b : Bool) (h i : List ℕ) → h ≡ paint size (cells_done y x (square r rule cx cy)) g → i ≡ paint size (dot x y (2 + one b)) h
+      → b ≡ rule d → d ≡ ring x y cx cy → d ≤ r → i ≡ paint size (cells_done y (x + 1) (square r rule cx cy)) g
+  unfolding cells_done square
+  cells_next x y d b h i e f q is near =
+      f ∙ ap (λ (p : Pattern). paint size p h) (λ j m n v. same m n v j) ∙ rw e (scan size (λ m n. eqb n y) (λ m n. m) x _ g)
+    where
+      same : (m n v : ℕ) → dot x y (2 + one b) m n v ≡ on (λ m n. eqb n y) (on (λ m n. eqb m x) (square r rule cx cy)) m n v
+      same m n v = go (eqb n y) refl (eqb m x) refl
+        where
+          go : (s : Bool) → eqb n y ≡ s → (t : Bool) → eqb m x ≡ t → cond s (cond t (2 + one b) v) v ≡ cond s (cond t (square r rule cx cy m n v) v) v
+          go true k true l = rw (eqb-true n y k, eqb-true m x l, ← is, le-leb _ _ near, q)
+          go true k false l = refl
+          go false k t l = refl
 
-  pub finder_module : h ≡ paint size (dot (cx + dx - 4) (cy + dy - 4) (2 + one d)) g
-      → d ≡ not (eqb (max (apart dx 4) (apart dy 4)) 2 || eqb (max (apart dx 4) (apart dy 4)) 4) → Square g size
-      → 4 ≤ cx + dx → 4 ≤ cy + dy → cx + dx - 4 < size → cy + dy - 4 < size → dx < 9 → dy < 9
-      → h ≡ paint size (box_cell 4 cx cy dx dy (finder cx cy)) g
-  finder_module e q sq ax ay hx hy bx by =
-      one_module 4 (cx + dx - 4) (cy + dy - 4) (finder cx cy) e sq hx hy (omega arith) (omega arith)
-      (λ v. rw q (finder_at cx cy dx dy (cx + dx - 4) (cy + dy - 4) v bx by (omega arith) (omega arith)))
+  pub cells_end : (x y : ℕ) (h : List ℕ) → h ≡ paint size (cells_done y x (square r rule cx cy)) g → Square g size → min size (cx + r + 1) ≤ x
+      → h ≡ paint size (on (λ a b. eqb b y) (square r rule cx cy)) g
+  unfolding cells_done
+  cells_end x y h e sq done = e ∙ scan_end size g sq.size (λ m n. eqb n y) (λ m n. m) x _ (λ m n v hx hy h. off m n v (omega arith))
 
-  pub alignment_module : h ≡ paint size (dot (cx + dx - 2) (cy + dy - 2) (2 + one d)) g → d ≡ not (eqb (max (apart dx 2) (apart dy 2)) 1) → Square g size
-      → 2 ≤ cx → 2 ≤ cy → cx + 2 < size → cy + 2 < size → dx < 5 → dy < 5
-      → h ≡ paint size (box_cell 2 cx cy dx dy (alignment_square cx cy)) g
-  alignment_module e q sq ax ay hx hy bx by =
-      one_module 2 (cx + dx - 2) (cy + dy - 2) (alignment_square cx cy) e sq (omega arith) (omega arith) (omega arith) (omega arith)
-      (λ v. rw q (alignment_at cx cy dx dy (cx + dx - 2) (cy + dy - 2) v bx by (omega arith) (omega arith)))
+  pub rows_next : (y : ℕ) (h i : List ℕ) → h ≡ paint size (rows_done y (square r rule cx cy)) g → i ≡ paint size (on (λ a b. eqb b y) (square r rule cx cy)) h
+      → i ≡ paint size (rows_done (y + 1) (square r rule cx cy)) g
+  unfolding rows_done
+  rows_next y h i e f = f ∙ rw e (scan size (λ x y. true) (λ x y. y) y _ g)
+
+  pub rows_end : (y : ℕ) (h : List ℕ) → h ≡ paint size (rows_done y (square r rule cx cy)) g → Square g size → min size (cy + r + 1) ≤ y
+      → h ≡ paint size (square r rule cx cy) g
+  unfolding rows_done
+  rows_end y h e sq done = e ∙ scan_end size g sq.size (λ x y. true) (λ x y. y) y _ (λ x y v hx hy h. off x y v (omega arith))

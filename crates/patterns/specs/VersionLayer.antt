@@ -138,7 +138,7 @@ pub none_below_7 : (v : ℕ) (g : List ℕ) → Square g (side v) → v < 7 → 
 unfolding layer on_version
 none_below_7 v g sq h = paint_none (side v) g sq.size _ (λ x y hx hy. rw (lt-leb 7 v h))
 
-pub version_drawn : (v word n : ℕ) (g h : List ℕ) → h ≡ paint (side v) (twins n (version_x (side v)) version_y (word_bit word)) g → word ≡ version_word v → Square g (side v) → 7 ≤ v → n ≤ 18 → 18 ≤ n
+pub version_drawn : (v size word n : ℕ) (g h : List ℕ) → h ≡ paint size (twins n (version_x size) version_y (word_bit word)) g → size ≡ side v → word ≡ version_word v → Square g (side v) → 7 ≤ v → n ≤ 18 → 18 ≤ n
     → h ≡ paint (side v) (versions v) g
-version_drawn v word n g h e f sq low l m =
-    e ∙ rw (le_antisymm l m, f) (paint_ext (side v) g sq.size _ _ (λ x y w hx hy. version_layer v x y w low))
+version_drawn v size word n g h e q f sq low l m =
+    rw q at e ∙ rw (le_antisymm l m, f) (paint_ext (side v) g sq.size _ _ (λ x y w hx hy. version_layer v x y w low))

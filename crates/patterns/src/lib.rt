@@ -5,17 +5,16 @@
 mod alignment; // alignment.rt: alignment patterns
 mod format; // format.rt: format and version bits
 
-ghost use Rattle.std.specs.Prelude.{◌≡◌, not, ◌||◌, ◌+◌, ◌*◌, ◌<◌, ◌≤◌, max, eqb};
-ghost use Rattle.standard.specs.Numbers.{apart, bit, one};
+ghost use Rattle.std.specs.Prelude.{◌≡◌, ℕ, Bool, ◌+◌, ◌*◌, ◌<◌, ◌≤◌};
+ghost use Rattle.standard.specs.Numbers.{bit, one};
 ghost use Rattle.standard.specs.Sizes.{side};
 ghost use Rattle.standard.specs.Format.{format_word};
 ghost use Rattle.laws.specs.Grid.{Square, paint};
-ghost use Rattle.laws.specs.Box.{box_cell};
 ghost use Rattle.laws.specs.Dots.{dot};
 ghost use Rattle.laws.specs.Marks.{twin};
 ghost use Rattle.types.specs.Numbers.{level_of};
 ghost use Rattle.patterns.specs.Layers.{timings, functions};
-ghost use Rattle.patterns.specs.Shapes.{finder};
+ghost use Rattle.patterns.specs.Shapes.{finder, square, Rules};
 ghost use Rattle.patterns.specs.FinderLayer.{finders};
 
 pub use format::draw_format_bits;
@@ -27,8 +26,7 @@ use types::{Mask, QrCodeEcc, Version};
 pub fn size_of(ver: Version) -> usize
     ensures { result ≡ side ver.value }
 {
-    let v = ver.value() as usize;
-    4 * v + 17
+    4 * usize::from(ver.value()) + 17
 }
 
 // Where the module (x, y) stands in the grid.
@@ -39,13 +37,6 @@ pub fn place(size: usize, x: usize, y: usize) -> usize
     y * size + x
 }
 
-// A function module's byte.
-fn function_module(isdark: bool) -> u8
-    ensures { result ≡ 2 + one isdark }
-{
-    if isdark { 3 } else { 2 }
-}
-
 // Sets the color of a module and marks it as a function module.
 // Coordinates must be in bounds.
 fn set_function_module(grid: &mut [u8], size: usize, x: usize, y: usize, isdark: bool)
@@ -53,8 +44,7 @@ fn set_function_module(grid: &mut [u8], size: usize, x: usize, y: usize, isdark:
     requires x_lt_size { (x < size) × (y < size) }
     ensures { grid.new ≡ paint size (dot x y (2 + one isdark)) grid.old }
 {
-    let at = place(size, x, y);
-    grid[at] = function_module(isdark);
+    grid[place(size, x, y)] = 2 + u8::from(isdark);
 }
 
 // Sets the modules (a, b) and (b, a).
@@ -88,55 +78,26 @@ fn draw_timing(grid: &mut [u8], size: usize)
     }
 }
 
-// How far d is from r.
-fn distance(d: usize, r: usize) -> usize
-    ensures { result ≡ apart d r }
-{
-    if d < r { r - d } else { d - r }
-}
-
-// The larger of two numbers.
-fn larger(a: usize, b: usize) -> usize
-    ensures { result ≡ max a b }
-{
-    if a < b { b } else { a }
-}
-
-// The color of a finder's module that is dist away from the center.
-fn ring_dark(dist: usize) -> bool
-    ensures { result ≡ not (eqb dist 2 || eqb dist 4) }
-{
-    if dist == 2 { false } else { dist != 4 }
-}
-
-// The color of the module (dx - 4, dy - 4) away from a finder's center.
-fn finder_dark(dx: usize, dy: usize) -> bool
-    ensures { result ≡ not (eqb (max (apart dx 4) (apart dy 4)) 2 || eqb (max (apart dx 4) (apart dy 4)) 4) }
-{
-    ring_dark(larger(distance(dx, 4), distance(dy, 4)))
-}
-
-// The module (dx - 4, dy - 4) away from the center (x, y), if it is in bounds.
-fn draw_finder_module(grid: &mut [u8], size: usize, x: usize, y: usize, dx: usize, dy: usize)
+// Draws the modules at most r away from the center (x, y), dark where the distance says so. Modules can be out of bounds.
+fn draw_square<F: Fn(usize) -> bool>(
+    grid: &mut [u8],
+    size: usize,
+    x: usize,
+    y: usize,
+    r: usize,
+    isdark: F,
+)
     requires square { Square grid.old size }
-    requires x_lt_size { (x < size) × (y < size) × (dx < 9) × (dy < 9) }
-    ensures { grid.new ≡ paint size (box_cell 4 x y dx dy (finder x y)) grid.old }
+    requires x_lt_size { (x < size) × (y < size) × (r ≤ 4) }
+    requires callable { F.IsAlwaysCallable isdark }
+    ensures { (rule : ℕ → Bool) → Rules (F.post isdark) r rule → grid.new ≡ paint size (square r rule x y) grid.old }
 {
-    let xx = x + dx;
-    let yy = y + dy;
-    if xx < 4 {
-        return;
+    for yy in y.saturating_sub(r)..size.min(y + r + 1) {
+        for xx in x.saturating_sub(r)..size.min(x + r + 1) {
+            let dist = xx.abs_diff(x).max(yy.abs_diff(y));
+            set_function_module(grid, size, xx, yy, isdark(dist));
+        }
     }
-    if yy < 4 {
-        return;
-    }
-    if xx - 4 >= size {
-        return;
-    }
-    if yy - 4 >= size {
-        return;
-    }
-    set_function_module(grid, size, xx - 4, yy - 4, finder_dark(dx, dy));
 }
 
 // Draws a 9*9 finder pattern including the border separator,
@@ -146,11 +107,7 @@ fn draw_finder_pattern(grid: &mut [u8], size: usize, x: usize, y: usize)
     requires x_lt_size { (x < size) × (y < size) }
     ensures { grid.new ≡ paint size (finder x y) grid.old }
 {
-    for dy in 0..9 {
-        for dx in 0..9 {
-            draw_finder_module(grid, size, x, y, dx, dy);
-        }
-    }
+    draw_square(grid, size, x, y, 4, |dist| dist != 2 && dist != 4);
 }
 
 // Draws 3 finder patterns (all corners except bottom right; overwrites some timing modules).
@@ -172,10 +129,9 @@ pub fn draw_function_patterns(grid: &mut [u8], ver: Version, ecl: QrCodeEcc, mas
     ensures { grid.new ≡ paint (side ver.value) (functions ver.value (format_word (level_of ecl) mask.value)) grid.old }
 {
     let size = size_of(ver);
-    let v = ver.value() as usize;
     draw_timing(grid, size);
     draw_finders(grid, size);
     alignment::draw_alignment_patterns(grid, ver);
     format::draw_format_bits(grid, ver, ecl, mask);
-    format::draw_version(grid, v);
+    format::draw_version(grid, ver);
 }

@@ -1,7 +1,7 @@
 -- `draw_function_patterns` draws all function modules of the definition.
 -- Assumes nothing.
 use Rattle.std.proofs.Common.{rules}
-use Rattle.patterns.specs.Everything.{square_is, square_at, all_drawn}
+use Rattle.patterns.specs.Everything.{square_is, all_drawn}
 use Rattle.patterns.proofs.draw_function_patterns.Goals as goal
 
 pub draw_timing-requires : goal.draw_timing-requires
@@ -9,9 +9,6 @@ draw_timing-requires c = record { square = square_is _ _ _ c.size_of-size.ensure
 
 pub draw_finders-requires : goal.draw_finders-requires
 draw_finders-requires c = record { square = square_is _ _ _ c.size_of-size.ensures (search rules); le_size = search rules }
-
-pub draw_version-requires : goal.draw_version-requires
-draw_version-requires c = record { square = square_at _ _ _ c.value-v.ensures (search rules); le_v = search rules }
 
 pub returns : goal.returns
 returns c = search (all_drawn, rules)

@@ -1,21 +1,9 @@
 -- `draw_alignment_pattern` draws the square of five.
 -- Assumes nothing.
-use Rattle.std.proofs.Common.{rules}
-use Rattle.laws.specs.Box.{cells_start, cells_next, cells_end, rows_start, rows_next, rows_end}
-use Rattle.patterns.specs.Shapes.{alignment_off}
+use Rattle.std.proofs.Common.{rules, not, eqb}
+use Rattle.patterns.specs.Shapes.{square, alignment_square}
 use Rattle.patterns.proofs.alignment.draw_alignment_pattern.Goals as goal
 
-pub loop-dy-init : goal.loop-dy-init
-loop-dy-init c = search (rows_start, alignment_off, rules)
-
-pub loop-dx-init : goal.loop-dx-init
-loop-dx-init c = search (cells_start, alignment_off, rules)
-
-pub loop-dx-preserved : goal.loop-dx-preserved
-loop-dx-preserved c = search (cells_next, rules)
-
-pub loop-dy-preserved : goal.loop-dy-preserved
-loop-dy-preserved c = search (cells_end, rows_next, alignment_off, rules)
-
 pub returns : goal.returns
-returns c = search (rows_end, alignment_off, rules)
+unfolding square alignment_square
+returns c = c.draw_square.ensures (λ d. not (eqb d 1)) (λ d b h p. search rules)

@@ -1,14 +1,11 @@
--- `version_word` computes the twelve check bits.
+-- `version_word` has the twelve check bits.
 -- Assumes nothing.
-use Rattle.std.proofs.Common.{rules}
-use Rattle.patterns.specs.Words.{checking_start, checking_next, twelve, version_end}
+use Rattle.std.proofs.Common.{rules, ◌∙◌}
+use Rattle.patterns.specs.Words.{twelve, version_is}
 use Rattle.patterns.proofs.format.version_word.Goals as goal
 
-pub loop-i-init : goal.loop-i-init
-loop-i-init c = search (checking_start, rules)
-
-pub loop-i-preserved : goal.loop-i-preserved
-loop-i-preserved c = (search (checking_next, rules), search (twelve, rules), search rules)
+pub remainder-requires : goal.remainder-requires
+remainder-requires c = (search rules, search rules, twelve)
 
 pub returns : goal.returns
-returns c = search (version_end, rules)
+returns c = version_is _ _ _ c.remainder.ensures.0 (c.from-data.ensures ∙ c.value.ensures)

@@ -1,0 +1,10 @@
+-- `draw_copy` draws fifteen bits, at the places that are answered.
+-- Assumes nothing.
+use Rattle.std.proofs.Common.{◌≡◌, ℕ}
+use Rattle.laws.specs.Grid.{paint}
+use Rattle.laws.specs.Dots.{dots}
+use Rattle.patterns.specs.FormatPlaces.{word_bit, Places}
+use Rattle.patterns.proofs.format.draw_copy.Given as goal
+
+abbrev pub invariant-loop-i : goal.invariant-loop-i
+invariant-loop-i g l = (px py : ℕ → ℕ) → Places (goal.F-post g l.at) px py → l.grid ≡ paint l.size (dots l.i px py (word_bit l.bits)) l.initial.grid
