@@ -5,6 +5,7 @@ ghost use Rattle.std.specs.Prelude.{◌≡◌, ◌≤◌, ◌<◌, option_map, M
 ghost use Rattle.standard.specs.Format.{level_bits};
 ghost use Rattle.standard.specs.Kinds.{mode_bits, count_width};
 ghost use Rattle.types.specs.Numbers.{level_of, kind_of, text_kind_of, new_version, new_mask};
+ghost use Rattle.types.specs.Levels.{NamesLevel};
 
 // The error correction level in a QR Code symbol.
 #[derive(Clone, Copy, PartialEq, Eq)]
@@ -42,6 +43,27 @@ impl QrCodeEcc {
             QrCodeEcc::Medium => 0,
             QrCodeEcc::Quartile => 3,
             QrCodeEcc::High => 2,
+        }
+    }
+}
+
+// A number that is no level's.
+#[derive(Clone, Copy, PartialEq, Eq)]
+pub struct NoLevel(pub u8);
+
+impl TryFrom<u8> for QrCodeEcc {
+    type Error = NoLevel;
+
+    ghost try_from_gives = { NamesLevel };
+
+    // The level of a number in the range 0 to 3; there is none above.
+    fn try_from(n: u8) -> Result<QrCodeEcc, NoLevel> {
+        match n {
+            0 => Ok(QrCodeEcc::Low),
+            1 => Ok(QrCodeEcc::Medium),
+            2 => Ok(QrCodeEcc::Quartile),
+            3 => Ok(QrCodeEcc::High),
+            _ => Err(NoLevel(n)),
         }
     }
 }
@@ -193,23 +215,6 @@ impl Mask {
     {
         self.value
     }
-}
-
-// The level of a number that is known to be one. (Where the number may be anything, a caller refuses it first.)
-pub fn level_at(n: u8) -> QrCodeEcc
-    requires { n ≤ 3 }
-    ensures { level_of result ≡ n }
-{
-    if n == 0 {
-        return QrCodeEcc::Low;
-    }
-    if n == 1 {
-        return QrCodeEcc::Medium;
-    }
-    if n == 2 {
-        return QrCodeEcc::Quartile;
-    }
-    QrCodeEcc::High
 }
 
 // The version of a number that is known to be one.

@@ -1,0 +1,9 @@
+-- The number that asks for a mask, or for the automatic choice.
+-- Assumes nothing.
+use Rattle.std.specs.Prelude.{ℕ, Option, Some, None}
+use Rattle.types.specs.declared.Mask.{Mask}
+
+-- the mask's own number, or 8 for the automatic choice
+abbrev pub mask_number : Option Mask → ℕ
+mask_number (Some m) = m.value
+mask_number None = 8
