@@ -13,6 +13,10 @@ use Rattle.segments.specs.Payload.{segment}
 use Rattle.segments.specs.Records.{part_of, part_at, parts_of, good_at}
 
 module _ (text : List ℕ) (k s n a : ℕ) where
+  pub eci_number : k ≡ 3 → s ≡ 0 → n ≡ 0 → nat_lt a 1_000_000 ≡ good_part text (part_of k s n a)
+  unfolding good_part
+  eci_number e q r = simp (eq-eqb k 3 e, eq-eqb s 0 q, eq-eqb n 0 r)
+
   pub eci_start : k ≡ 3 → (s ≢ 0) → false ≡ good_part text (part_of k s n a)
   unfolding good_part
   eci_start e h = simp (eq-eqb k 3 e, ne_eqb s 0 h)
@@ -21,39 +25,33 @@ module _ (text : List ℕ) (k s n a : ℕ) where
   unfolding good_part
   eci_length e q h = simp (eq-eqb k 3 e, eq-eqb s 0 q, ne_eqb n 0 h)
 
-  pub eci_number : k ≡ 3 → s ≡ 0 → n ≡ 0 → nat_lt a 1_000_000 ≡ good_part text (part_of k s n a)
+  pub bad_kind : (k ≢ 3) → 2 < k → false ≡ good_part text (part_of k s n a)
   unfolding good_part
-  eci_number e q r = simp (eq-eqb k 3 e, eq-eqb s 0 q, eq-eqb n 0 r)
+  bad_kind ne h = let l : 3 ≤ k = omega arith in simp (ne_eqb k 3 ne, le-ltb k 3 l)
 
-  module _ (ne : k ≡ 3 → ⊥) where
-    pub bad_kind : 3 < k → false ≡ good_part text (part_of k s n a)
+  module _ (j : ℕ) (is : j ≡ k) (low : j < 3) where
+    low_k : k < 3
+    low_k = omega arith
+
+    other : k ≡ 3 → ⊥
+    other e = omega (arith, low_k)
+
+    pub bad_assign : (a ≢ 0) → false ≡ good_part text (part_of k s n a)
     unfolding good_part
-    bad_kind h = let l : 3 ≤ k = omega arith in simp (ne_eqb k 3 ne, le-ltb k 3 l)
+    bad_assign h = simp (ne_eqb k 3 other, lt-ltb k 3 low_k, ne_eqb a 0 h)
 
-    module _ (le : k ≤ 3) where
-      kind_lt : k < 3
-      kind_lt = omega arith
+    pub bad_part : a ≡ 0 → length text < s + n → false ≡ good_part text (part_of k s n a)
+    unfolding good_part
+    bad_part za l = simp (ne_eqb k 3 other, lt-ltb k 3 low_k, eq-eqb a 0 za, lt-leb (s + n) (length text) l)
 
-      pub bad_assign : (a ≢ 0) → false ≡ good_part text (part_of k s n a)
-      unfolding good_part
-      bad_assign h = simp (ne_eqb k 3 ne, lt-ltb k 3 kind_lt, ne_eqb a 0 h)
-
-      module _ (za : a ≡ 0) where
-        pub bad_start : length text < s → false ≡ good_part text (part_of k s n a)
-        unfolding good_part
-        bad_start h = let l : length text < s + n = omega arith in simp (ne_eqb k 3 ne, lt-ltb k 3 kind_lt, eq-eqb a 0 za, lt-leb (s + n) (length text) l)
-
-        pub bad_length : s ≤ length text → length text - s < n → false ≡ good_part text (part_of k s n a)
-        unfolding good_part
-        bad_length q h = let l : length text < s + n = omega arith in simp (ne_eqb k 3 ne, lt-ltb k 3 kind_lt, eq-eqb a 0 za, lt-leb (s + n) (length text) l)
-
-        pub good_text : (b : Bool) → b ≡ every (allowed k) (take (s + n - s) (drop s text)) → s ≤ length text → n ≤ length text - s → b ≡ good_part text (part_of k s n a)
-        unfolding good_part
-        good_text b e q h =
-            let l : s + n ≤ length text = omega arith in
-            let d : s + n - s ≡ n = omega arith in
-            e ∙ ap (λ (i : ℕ). every (allowed k) (take i (drop s text))) d
-            ∙ simp (ne_eqb k 3 ne, lt-ltb k 3 kind_lt, eq-eqb a 0 za, le-leb (s + n) (length text) l)
+    pub good_text : (b : Bool) → b ≡ every (allowed j) (take (s + n - s) (drop s text)) → a ≡ 0 → s ≤ length text → n ≤ length text - s → b ≡ good_part text (part_of k s n a)
+    unfolding good_part
+    good_text b e za q h =
+        let l : s + n ≤ length text = omega arith in
+        let d : s + n - s ≡ n = omega arith in
+        e ∙ ap (λ (i : ℕ). every (allowed i) (take (s + n - s) (drop s text))) is
+        ∙ ap (λ (i : ℕ). every (allowed k) (take i (drop s text))) d
+        ∙ simp (ne_eqb k 3 other, lt-ltb k 3 low_k, eq-eqb a 0 za, le-leb (s + n) (length text) l)
 
 -- ---- what a good record says
 

@@ -1,17 +1,15 @@
 -- Sizes of segments and of lists of them: the bits, or that a length does not fit its count field.
 -- Assumes nothing.
-use Rattle.std.specs.Prelude.{◌≡◌, ℕ, ◌+◌, ◌-◌, ◌*◌, ◌/◌, ◌^◌, ◌<◌, ◌≤◌, Bool, true, false, cond, ◌&&◌, T, List, [], ◌∷◌, length, take, drop, ◌≢◌, nat_le, nat_lt, refl}
+use Rattle.std.specs.Prelude.{◌≡◌, ℕ, ◌+◌, ◌-◌, ◌*◌, ◌/◌, ◌^◌, ◌<◌, ◌≤◌, Bool, true, false, cond, ◌&&◌, T, List, [], ◌∷◌, length, take, drop, nat_le, nat_lt, refl}
 use Rattle.std.proofs.Math.Path.{sym}
 use Rattle.std.proofs.Common.{ap, ◌∙◌, add_assoc, zero-add, le→leb}
 use native.Mathlib.Omega.{arith}
-use borrow.Author.Tests.{lt-ltb, le-ltb}
 use Rattle.standard.specs.Sizes.{data_codewords, capacity}
 use Rattle.standard.specs.Kinds.{count_width, eci_bits}
 use Rattle.standard.specs.Segments.{Part, Segment, segment_of, segments_of, payload, segment_size, total_bits, lengths_fit, fits}
 use Rattle.segments.specs.declared.TotalBits.{TotalBits}
 use Rattle.segments.specs.declared.TotalBits.TheVariants.{Bits, TooLong}
 use Rattle.laws.specs.Tests.{true_T, and_pair}
-use Rattle.laws.specs.Lists.{length_bits}
 use Rattle.segments.specs.Runs.{run_size, run_size_lem}
 use Rattle.segments.specs.Records.{part_at, parts_of, rest_of, rest_all, rest_more, rest_none}
 use Rattle.segments.specs.Good.{Means}
@@ -63,22 +61,13 @@ more_zero TooLong = refl
 -- ---- a payload's bits
 
 module _ (k : ℕ) (cs : List ℕ) (a : ℕ) where
-  pub eci_8 : k ≡ 3 → a < 128 → 8 ≡ length (payload (segment k cs a))
-  unfolding payload eci_bits
-  eci_8 e h = sym (ap (λ (j : ℕ). length (payload (segment j cs a))) e ∙ simp (lt-ltb a 128 h, length_bits))
+  pub eci_size : (r : ℕ) → r ≡ length (eci_bits a) → 2 < k → k ≤ 3 → r ≡ length (payload (segment k cs a))
+  unfolding payload
+  eci_size r e h l = let q : k ≡ 3 = omega arith in e ∙ sym (ap (λ (j : ℕ). length (payload (segment j cs a))) q)
 
-  pub eci_16 : k ≡ 3 → 128 ≤ a → a < 16_384 → 16 ≡ length (payload (segment k cs a))
-  unfolding payload eci_bits
-  eci_16 e l h = sym (ap (λ (j : ℕ). length (payload (segment j cs a))) e ∙ simp (le-ltb a 128 l, lt-ltb a 16_384 h, length_bits))
-
-  pub eci_24 : k ≡ 3 → 16_384 ≤ a → 24 ≡ length (payload (segment k cs a))
-  unfolding payload eci_bits
-  eci_24 e l = let m : 128 ≤ a = omega arith in sym (ap (λ (j : ℕ). length (payload (segment j cs a))) e ∙ simp (le-ltb a 128 m, le-ltb a 16_384 l, length_bits))
-
-  pub text_size : (r : ℕ) → r ≡ run_size k (length cs) → k ≤ 3 → (k ≢ 3) → r ≡ length (payload (segment k cs a))
-  text_size r e l h =
-      let lt : k < 3 = omega arith in
-      e ∙ sym (ap length (payload_run k cs a lt) ∙ run_size_lem k (length cs) (length cs) cs (omega arith))
+  pub text_size : (r j : ℕ) → r ≡ run_size j (length cs) → j ≡ k → k < 3 → r ≡ length (payload (segment k cs a))
+  text_size r j e q lt =
+      e ∙ ap (λ (i : ℕ). run_size i (length cs)) q ∙ sym (ap length (payload_run k cs a lt) ∙ run_size_lem k (length cs) (length cs) cs (omega arith))
 
 -- ---- the loop over records
 

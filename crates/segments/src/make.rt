@@ -3,18 +3,19 @@ ghost use Rattle.std.specs.Prelude.{◌≡◌, ◌+◌, ◌^◌, ◌<◌, ◌≤
 ghost use Rattle.standard.specs.Numbers.{every};
 ghost use Rattle.standard.specs.Kinds.{count_width, is_digit, is_alphanumeric, allowed, digit_bits, pair_bits, byte_bits, eci_bits};
 ghost use Rattle.standard.specs.Segments.{good_segment, payload, segment_bits};
+ghost use Rattle.types.specs.Numbers.{text_kind_of};
 ghost use Rattle.bits.specs.Appended.{Free, Appended};
 ghost use Rattle.segments.specs.Kinds.{size, group_number};
 ghost use Rattle.segments.specs.Runs.{run_bits};
 ghost use Rattle.segments.specs.Payload.{segment};
 
 use super::{code_of, limit_of, mode_of, part_of, width_of};
-use types::Version;
+use types::{TextKind, Version};
 
 // The number of the group of m characters from at on.
-fn group_number(text: &[u8], at: usize, kind: u8, m: usize) -> u32
-    requires { (kind < 3) × (m ≤ size kind) × (at + m ≤ length text.now) × T (every (allowed kind) text.now) }
-    ensures { result ≡ group_number kind 0 (take m (drop at text.now)) }
+fn group_number(text: &[u8], at: usize, kind: TextKind, m: usize) -> u32
+    requires { (m ≤ size (text_kind_of kind)) × (at + m ≤ length text.now) × T (every (allowed (text_kind_of kind)) text.now) }
+    ensures { result ≡ group_number (text_kind_of kind) 0 (take m (drop at text.now)) }
 {
     let b = limit_of(kind, 1);
     let mut x: u32 = 0;
@@ -29,9 +30,9 @@ fn group_number(text: &[u8], at: usize, kind: u8, m: usize) -> u32
 }
 
 // Appends the groups of the given characters of a kind, and returns the bit after them.
-fn append_groups(bb: &mut [u8], at: usize, kind: u8, text: &[u8]) -> usize
-    requires { (kind < 3) × T (every (allowed kind) text.now) × Free bb.old at (run_bits kind (length text.now) (length text.now) text.now) }
-    ensures { Appended bb.old bb.new at result (run_bits kind (length text.now) (length text.now) text.now) }
+fn append_groups(bb: &mut [u8], at: usize, kind: TextKind, text: &[u8]) -> usize
+    requires { T (every (allowed (text_kind_of kind)) text.now) × Free bb.old at (run_bits (text_kind_of kind) (length text.now) (length text.now) text.now) }
+    ensures { Appended bb.old bb.new at result (run_bits (text_kind_of kind) (length text.now) (length text.now) text.now) }
 {
     let mut p = at;
     let mut q: usize = 0;
@@ -53,7 +54,7 @@ pub fn make_bytes(bb: &mut [u8], at: usize, data: &[u8]) -> usize
     requires { Free bb.old at (byte_bits «data».now) }
     ensures { Appended bb.old bb.new at result (byte_bits «data».now) }
 {
-    append_groups(bb, at, 2, data)
+    append_groups(bb, at, TextKind::Byte, data)
 }
 
 // Appends the given string of decimal digits, encoded in numeric mode, and returns the bit after it.
@@ -61,7 +62,7 @@ pub fn make_numeric(bb: &mut [u8], at: usize, text: &[u8]) -> usize
     requires { T (every is_digit text.now) × Free bb.old at (digit_bits text.now) }
     ensures { Appended bb.old bb.new at result (digit_bits text.now) }
 {
-    append_groups(bb, at, 0, text)
+    append_groups(bb, at, TextKind::Numeric, text)
 }
 
 // Appends the given text string, encoded in alphanumeric mode, and returns the bit after it.
@@ -69,7 +70,7 @@ pub fn make_alphanumeric(bb: &mut [u8], at: usize, text: &[u8]) -> usize
     requires { T (every is_alphanumeric text.now) × Free bb.old at (pair_bits text.now) }
     ensures { Appended bb.old bb.new at result (pair_bits text.now) }
 {
-    append_groups(bb, at, 1, text)
+    append_groups(bb, at, TextKind::Alphanumeric, text)
 }
 
 // Appends an Extended Channel Interpretation (ECI) designator with the given assignment value,

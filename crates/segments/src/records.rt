@@ -1,7 +1,9 @@
 // Records: one lent slice of numbers, four to a record (kind, start, length, assign), that name parts of one lent text.
 ghost use Rattle.std.specs.Prelude.{◌≡◌, ◌*◌, ◌/◌, ◌^◌, ◌<◌, ◌≤◌, T, length};
 ghost use Rattle.standard.specs.Numbers.{every};
+ghost use Rattle.standard.specs.Kinds.{eci_bits};
 ghost use Rattle.standard.specs.Segments.{segments_of, good_part, first_bad, payload, whole};
+ghost use Rattle.types.specs.Numbers.{text_kind_of};
 ghost use Rattle.segments.specs.Runs.{run_size};
 ghost use Rattle.segments.specs.Payload.{segment};
 ghost use Rattle.segments.specs.Records.{part_of, parts_of};
@@ -9,12 +11,12 @@ ghost use Rattle.segments.specs.Good.{Means};
 ghost use Rattle.segments.specs.Totals.{size_of, total_of};
 
 use super::{TotalBits, is_text, mode_of, size_of, width_of};
-use types::Version;
+use types::{TextKind, Version};
 
 // How many bits the groups of count characters of a kind take.
-fn run_size(kind: u8, count: usize) -> usize
-    requires { (kind < 3) × (count < 2 ^ 32) }
-    ensures { result ≡ run_size kind count }
+fn run_size(kind: TextKind, count: usize) -> usize
+    requires { count < 2 ^ 32 }
+    ensures { result ≡ run_size (text_kind_of kind) count }
 {
     let full = size_of(kind);
     let w = width_of(kind, full) as usize;
@@ -22,21 +24,29 @@ fn run_size(kind: u8, count: usize) -> usize
     count / full * w + v
 }
 
+// How many bits the given ECI number takes.
+#[tactic(auto, using(laws::specs::Lists::length_bits), unfolding(standard::specs::Kinds::eci_bits))]
+fn eci_bits(assignval: u32) -> usize
+    ensures { result ≡ length (eci_bits assignval) }
+{
+    if assignval < 128 {
+        8
+    } else if assignval < 16_384 {
+        16
+    } else {
+        24
+    }
+}
+
 // How many bits the payload of a segment takes.
 fn payload_bits(kind: u8, chars: &[u8], assignval: u32) -> usize
     requires { (kind ≤ 3) × (length chars.now < 2 ^ 32) }
     ensures { result ≡ length (payload (segment kind chars.now assignval)) }
 {
-    if kind == 3 {
-        if assignval < 128 {
-            return 8;
-        }
-        if assignval < 16_384 {
-            return 16;
-        }
-        return 24;
+    match TextKind::new(kind as u64) {
+        Some(k) => run_size(k, chars.len()),
+        None => eci_bits(assignval),
     }
-    run_size(kind, chars.len())
 }
 
 // How many bits a segment takes at the given version, or that its length does not fit its length field.
@@ -63,41 +73,26 @@ pub(crate) struct Named {
 }
 
 // The numbers of one record of the given kind that names the whole text.
-pub fn whole_record(kind: u8, text: &[u8]) -> [u64; 4]
-    ensures { parts_of result ≡ whole kind text.now }
+#[tactic(auto, unfolding(crate::specs::Records::parts_of))]
+pub fn whole_record(kind: TextKind, text: &[u8]) -> [u64; 4]
+    ensures { parts_of result ≡ whole (text_kind_of kind) text.now }
 {
-    [kind as u64, 0, text.len() as u64, 0]
+    [kind.number() as u64, 0, text.len() as u64, 0]
 }
 
 // Tests whether a record is as it should be: its kind and fields, its part inside the text, and each character one of its kind.
+#[tactic(auto, using(crate::specs::Good::eci_number, crate::specs::Good::eci_start, crate::specs::Good::eci_length, crate::specs::Good::bad_kind, crate::specs::Good::bad_assign, crate::specs::Good::bad_part, crate::specs::Good::good_text, types::specs::Laws::text_kind_lt))]
 fn is_good(text: &[u8], kind: u64, start: u64, len: u64, assign: u64) -> bool
     ensures { result ≡ good_part text.now (part_of kind start len assign) }
 {
-    if kind == 3 {
-        if start != 0 {
-            return false;
-        }
-        if len != 0 {
-            return false;
-        }
-        return assign < 1_000_000;
-    }
-    if 3 < kind {
-        return false;
-    }
-    if assign != 0 {
-        return false;
-    }
     let n = text.len() as u64;
-    if n < start {
-        return false;
+    match TextKind::new(kind) {
+        Some(k) if assign == 0 && start <= n && len <= n - start => {
+            is_text(k, &text[start as usize..(start + len) as usize])
+        }
+        None if kind == 3 && start == 0 && len == 0 => assign < 1_000_000,
+        _ => false,
     }
-    if n - start < len {
-        return false;
-    }
-    let s = start as usize;
-    let e = (start + len) as usize;
-    is_text(kind as u8, &text[s..e])
 }
 
 // The index of the first record that is not as it should be; the count of records where all are.

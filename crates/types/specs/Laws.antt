@@ -2,7 +2,7 @@
 -- Assumes nothing.
 use Rattle.std.specs.Prelude.{ℕ, ◌+◌, ◌/◌, ◌≤◌, ◌<◌, [], ◌∷◌, get_or, Some, None}
 use Rattle.std.proofs.Math.Path.{◌≡◌}
-use Rattle.std.proofs.Common.{ap, ◌∙◌, arith, lit≤}
+use Rattle.std.proofs.Common.{ap, ◌∙◌, arith, lit≤, lit<}
 use borrow.Author.Tests.{lt-ltb, le-ltb, le-leb, lt-leb}
 use Rattle.standard.specs.Kinds.{by_version, count_width}
 use Rattle.laws.specs.Tests.{split}
@@ -10,7 +10,9 @@ use Rattle.types.specs.declared.QrCodeEcc.{QrCodeEcc}
 use Rattle.types.specs.declared.QrCodeEcc.TheVariants.{Low, Medium, Quartile, High}
 use Rattle.types.specs.declared.QrSegmentMode.{QrSegmentMode}
 use Rattle.types.specs.declared.QrSegmentMode.TheVariants.{Numeric, Alphanumeric, Byte}
-use Rattle.types.specs.Numbers.{level_of, kind_of, new_version, new_mask}
+use Rattle.types.specs.declared.TextKind.{TextKind}
+use Rattle.types.specs.declared.TextKind.TheVariants.{Numeric as NumericText, Alphanumeric as AlphanumericText, Byte as ByteText}
+use Rattle.types.specs.Numbers.{level_of, kind_of, text_kind_of, new_version, new_mask}
 
 pub version_low : (n : ℕ) → n < 1 → None ≡ new_version n
 version_low n h = simp (lt-leb 1 n h)
@@ -57,3 +59,8 @@ level_le High = lit≤ tt
 
 pub level_fit : (ecl : QrCodeEcc) (l : ℕ) → l ≡ level_of ecl → l ≤ 3
 level_fit ecl l e = rw e (level_le ecl)
+
+pub text_kind_lt : (kind : TextKind) → text_kind_of kind < 3
+text_kind_lt NumericText = lit< tt
+text_kind_lt AlphanumericText = lit< tt
+text_kind_lt ByteText = lit< tt

@@ -1,7 +1,7 @@
 // The number types of the original, so that a mask can't be passed as a version, its levels and its modes.
 #![tactic(auto)]
 
-ghost use Rattle.std.specs.Prelude.{◌≡◌, ◌≤◌, option_map};
+ghost use Rattle.std.specs.Prelude.{◌≡◌, ◌≤◌, ◌<◌, option_map, MatchOption};
 ghost use Rattle.standard.specs.Format.{level_bits};
 ghost use Rattle.standard.specs.Kinds.{mode_bits, count_width};
 ghost use Rattle.types.specs.Numbers.{level_of, kind_of, text_kind_of, new_version, new_mask};
@@ -100,6 +100,18 @@ pub enum TextKind {
 }
 
 impl TextKind {
+    // The kind with the given number; there is none above 2.
+    pub fn new(number: u64) -> Option<TextKind>
+        ensures { MatchOption result (2 < number) (λ kind. text_kind_of kind ≡ number) }
+    {
+        match number {
+            0 => Some(TextKind::Numeric),
+            1 => Some(TextKind::Alphanumeric),
+            2 => Some(TextKind::Byte),
+            _ => None,
+        }
+    }
+
     // Returns the number of the kind in a record.
     pub fn number(self) -> u8
         ensures { result ≡ text_kind_of self }

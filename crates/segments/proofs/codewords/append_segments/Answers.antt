@@ -8,7 +8,7 @@ pub loop-i-init : goal.loop-i-init
 loop-i-init c = (search (stream_start, rules), search rules, search (fit_start, rules), search rules)
 
 pub append_segment-at-requires : goal.append_segment-at-requires
-append_segment-at-requires c = (search rules, search rules, search (fit_here, rules), search (stream_free, rules))
+append_segment-at-requires c = (search rules, search (fit_here, rules), search (stream_free, rules))
 
 pub loop-i-preserved : goal.loop-i-preserved
 loop-i-preserved c = (search (stream_next, rules), search rules, search (fit_next, rules), search rules)

@@ -9,7 +9,7 @@ use Rattle.segments.proofs.codewords.append_segments.Given as goal
 
 abbrev pub invariant-loop-i : goal.invariant-loop-i
 invariant-loop-i l =
-    Progress l.initial.bb l.bb 0 l.at (stream l.ver.0 (segments_of l.text (parts_of l.records))) (rest_bits l.ver.0 l.text l.records l.i) × (l.i ≤ l.n) × T (lengths_fit l.ver.0 (segments_of l.text (rest_of l.records l.i))) × (length l.bb ≡ length l.initial.bb)
+    Progress l.initial.bb l.bb 0 l.at (stream l.ver.value (segments_of l.text (parts_of l.records))) (rest_bits l.ver.value l.text l.records l.i) × (l.i ≤ l.n) × T (lengths_fit l.ver.value (segments_of l.text (rest_of l.records l.i))) × (length l.bb ≡ length l.initial.bb)
 
 abbrev pub decreases-loop-i : goal.decreases-loop-i
 decreases-loop-i l = l.n - l.i

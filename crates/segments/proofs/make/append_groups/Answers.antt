@@ -11,7 +11,7 @@ pub width_of-w-requires : goal.width_of-w-requires
 width_of-w-requires c = search (part_fits, rules)
 
 pub group_number-x-requires : goal.group_number-x-requires
-group_number-x-requires c = (search rules, search (part_fits, rules), search (part_inside, rules), search rules)
+group_number-x-requires c = (search (part_fits, rules), search (part_inside, rules), search rules)
 
 pub append_bits-p-requires : goal.append_bits-p-requires
 append_bits-p-requires c = (search (width_32, rules), search (groups_free, rules))

@@ -8,7 +8,7 @@ use Rattle.segments.proofs.records.get_total_bits.Given as goal
 
 abbrev pub invariant-loop-i : goal.invariant-loop-i
 invariant-loop-i l =
-    (total_of l.ver.0 (segments_of l.text (parts_of l.records)) ≡ more l.result (total_of l.ver.0 (segments_of l.text (rest_of l.records l.i)))) × (l.i ≤ l.n) × (l.result ≤ l.i * 2 ^ 20)
+    (total_of l.ver.value (segments_of l.text (parts_of l.records)) ≡ more l.result (total_of l.ver.value (segments_of l.text (rest_of l.records l.i)))) × (l.i ≤ l.n) × (l.result ≤ l.i * 2 ^ 20)
 
 abbrev pub decreases-loop-i : goal.decreases-loop-i
 decreases-loop-i l = l.n - l.i

@@ -1,17 +1,12 @@
 -- `segments::records::payload_bits` meets its contract: by cases on the kind.
 -- Assumes nothing.
-use Rattle.segments.specs.Totals.{eci_8, eci_16, eci_24, text_size}
-use Rattle.std.proofs.Common.{rules}
+use Rattle.std.proofs.Common.{arith, rules}
+use Rattle.types.specs.Laws.{text_kind_lt}
+use Rattle.segments.specs.Totals.{eci_size, text_size}
 use Rattle.segments.proofs.records.payload_bits.Goals as goal
 
-pub returns-then-assignval-lt128 : goal.returns-then-assignval-lt128
-returns-then-assignval-lt128 c = search (eci_8, rules)
+pub returns-in-Some : goal.returns-in-Some
+returns-in-Some c = text_size c.args.kind _ _ _ _ c.run_size.ensures c.in-Some.ensures (omega (arith, text_kind_lt c.in-Some.k, c.in-Some.ensures))
 
-pub returns-then-assignval-lt16384 : goal.returns-then-assignval-lt16384
-returns-then-assignval-lt16384 c = search (eci_16, rules)
-
-pub returns-then-kind-eq3 : goal.returns-then-kind-eq3
-returns-then-kind-eq3 c = search (eci_24, rules)
-
-pub returns : goal.returns
-returns c = search (text_size, rules)
+pub returns-in-None : goal.returns-in-None
+returns-in-None c = search (eci_size, rules)
