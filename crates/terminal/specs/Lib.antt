@@ -1,4 +1,5 @@
 pub mod Text
+pub mod Adds
 pub mod TextLaws
 pub mod Escaped
 pub mod Words

@@ -1,6 +1,6 @@
 -- Modules from what shows them: a picture in a terminal, or rows of 0 and 1.
 -- Assumes nothing.
-use Rattle.std.specs.Prelude.{ℕ, ◌+◌, ◌-◌, ◌*◌, ◌/◌, ◌%◌, ◌≤◌, ◌<◌, Bool, cond, not, ◌||◌, List, ◌++◌, ◌≡◌, eqb, length, get_or}
+use Rattle.std.specs.Prelude.{ℕ, ◌+◌, ◌-◌, ◌*◌, ◌/◌, ◌%◌, ◌≤◌, ◌<◌, Bool, cond, not, ◌||◌, Option, Some, None, List, ◌++◌, ◌≡◌, ltb, eqb, length, get_or}
 use Rattle.standard.specs.Numbers.{one, tabulate, least, keep, place}
 use Rattle.terminal.specs.Picture.{picture}
 
@@ -29,6 +29,10 @@ module_of side hs k =
 -- the first line has 13 bytes beside its characters, and a border of four on both sides
 abbrev pub side_of : List ℕ → ℕ
 side_of t = place 10 t - 21
+
+-- the side, where that line is not too short
+abbrev pub side_in : List ℕ → Option ℕ
+side_in t = cond (ltb 0 (side_of t)) (Some (side_of t)) None
 
 -- a square of light and dark modules that has a picture
 pub record Drawable (side : ℕ) (g : List ℕ) : Type 0 where
@@ -62,3 +66,7 @@ even side t p = cond (eqb (p % (side + 1)) side) (eqb (get_or t p 0) 10) (not (e
 -- the first place at which that fails; the length where it fails at none
 unfoldable pub uneven : ℕ → List ℕ → ℕ
 uneven side t = least 0 (length t) (λ (p : ℕ). not (even side t p))
+
+-- that place, where there is one
+abbrev pub uneven_in : ℕ → List ℕ → Option ℕ
+uneven_in side t = cond (ltb (uneven side t) (length t)) (Some (uneven side t)) None

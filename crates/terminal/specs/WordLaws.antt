@@ -1,164 +1,126 @@
 -- Laws for the loops and the returns that read words.
 -- Assumes nothing.
-use Rattle.std.specs.Prelude.{ℕ, suc, ◌+◌, ◌-◌, ◌*◌, ◌≤◌, ◌<◌, Bool, true, false, ◌&&◌, List, [], ◌∷◌, ◌≡◌, refl, ltb, eqb, length, get_or, take, drop}
-use Rattle.std.proofs.Common.{sym, ap, ap₂, ◌∙◌, add-one, arith, length-take, length-drop, drop_of_length-le, drop-cons, take_all, lt-ltb, le-ltb, eq-eqb, ne_eqb}
-use Rattle.standard.specs.Numbers.{one, place, same}
-use Rattle.laws.specs.Lists.{place_cons, place_head, unequal}
-use Rattle.terminal.specs.Words.{begins_with, next_number, number_from, number_of, first_of, last_of, level_named, mask_named, switch_named, line_length}
+use Rattle.std.specs.Prelude.{ℕ, suc, ◌+◌, ◌-◌, ◌*◌, ◌≤◌, ◌<◌, Bool, true, false, cond, ◌&&◌, Option, Some, None, List, [], ◌∷◌, ◌≡◌, ◌≢◌, refl, ltb, eqb, length, get_or, take, drop}
+use Rattle.std.specs.List.{AllWithin, HoldsAt, starts_with}
+use Rattle.std.specs.Option.{MatchOption, unwrap_or}
+use Rattle.std.proofs.lemmas.Iterator.{index_from_first}
+use Rattle.std.specs.Cmp.Lexicographic.{pointwise}
+use Rattle.std.proofs.Common.{sym, ap, ap₂, ◌∙◌, add-one, arith, drop_of_length-le, drop-cons, lt-ltb, le-ltb, eq-eqb, ne_eqb, eqb-true}
+use Rattle.std.proofs.lemmas.Bool.{eqb-false}
+use Rattle.standard.specs.Numbers.{place, same}
+use Rattle.laws.specs.Tests.{split, true_T}
+use Rattle.laws.specs.Lists.{place_cons, place_head, same_eq, unequal}
+use Rattle.terminal.specs.Words.{begins_with, place_in, small, next_number, number_from, number_of, level_named, switch_named}
 
 -- ---- two words
 
-both : (a b : List ℕ) (i : ℕ) → i < length a → i < length b
-    → same (drop i a) (drop i b) ≡ eqb (get_or a i 0) (get_or b i 0) && same (drop (i + 1) a) (drop (i + 1) b)
-both a b i p q =
-    ap₂ same (drop-cons a i 0 p) (drop-cons b i 0 q)
-    ∙ ap (λ (k : ℕ). eqb (get_or a i 0) (get_or b i 0) && same (drop k a) (drop k b)) (sym (add-one i))
+eqb_turned : (a b : ℕ) → eqb a b ≡ eqb b a
+eqb_turned a b = go (eqb a b) refl
+  where
+    go : (t : Bool) → eqb a b ≡ t → eqb a b ≡ eqb b a
+    go true e = e ∙ sym (eq-eqb b a (sym (eqb-true a b e)))
+    go false e = e ∙ sym (ne_eqb b a (λ q. eqb-false a b e (sym q)))
 
-pub same_next : (a b : List ℕ) (i : ℕ) → same a b ≡ same (drop i a) (drop i b) → length a ≡ length b → i < length a → get_or a i 0 ≡ get_or b i 0
-    → same a b ≡ same (drop (i + 1) a) (drop (i + 1) b)
-same_next a b i inv l p e =
-    inv ∙ both a b i p (omega arith)
-    ∙ ap (λ (t : Bool). t && same (drop (i + 1) a) (drop (i + 1) b)) (eq-eqb (get_or a i 0) (get_or b i 0) e)
+same_turned : (a b : List ℕ) → pointwise eqb a b ≡ same b a
+same_turned [] [] = refl
+same_turned [] (y ∷ ys) = refl
+same_turned (x ∷ xs) [] = refl
+same_turned (x ∷ xs) (y ∷ ys) = ap₂ (λ (s t : Bool). s && t) (eqb_turned x y) (same_turned xs ys)
 
-pub same_differ : (a b : List ℕ) (i : ℕ) → same a b ≡ same (drop i a) (drop i b) → length a ≡ length b → i < length a → (get_or a i 0 ≡ get_or b i 0 → ⊥)
-    → false ≡ same a b
-same_differ a b i inv l p e =
-    sym
-    (inv ∙ both a b i p (omega arith)
-    ∙ ap (λ (t : Bool). t && same (drop (i + 1) a) (drop (i + 1) b)) (ne_eqb (get_or a i 0) (get_or b i 0) e))
+differ : (a b : List ℕ) (i : ℕ) → get_or a i 0 ≢ get_or b i 0 → same a b ≡ false
+differ a b i n = go (same a b) refl
+  where
+    go : (t : Bool) → same a b ≡ t → same a b ≡ false
+    go true e = absurd (n (ap (λ (l : List ℕ). get_or l i 0) (same_eq a b (true_T (same a b) e))))
+    go false e = e
 
-pub same_end : (a b : List ℕ) (i : ℕ) → same a b ≡ same (drop i a) (drop i b) → length a ≡ length b → length a ≤ i → true ≡ same a b
-same_end a b i inv l h =
-    sym (inv ∙ ap₂ same (drop_of_length-le a {i = i} h) (drop_of_length-le b {i = i} (omega arith)))
-
-pub begins_short : (t w : List ℕ) → length t < length w → false ≡ begins_with t w
-begins_short t w h = unequal (take (length w) t) w (λ e. omega (arith, e, length-take (length w) t))
-
-pub begins_same : (t w : List ℕ) (r : Bool) → r ≡ same (take (length w - 0) (drop 0 t)) w → r ≡ begins_with t w
-begins_same t w r e = let n : length w - 0 ≡ length w = omega arith in e ∙ ap (λ (k : ℕ). same (take k t) w) n
+pub starts_begins : (t w : List ℕ) → starts_with eqb t w ≡ begins_with t w
+starts_begins t w = same_turned w (take (length w) t)
 
 -- ---- where a byte stands
 
-pub place_start : (c : ℕ) (w : List ℕ) → place c w ≡ 0 + place c (drop 0 w)
-place_start c w = omega arith
+-- what a search for a byte says of `place`
+pub place_found : (c : ℕ) (w : List ℕ) (r : Option ℕ)
+    → MatchOption r (AllWithin (λ x. x ≢ c) w 0 (length w)) (λ i. (i < length w) × HoldsAt (λ x. x ≡ c) w i × AllWithin (λ x. x ≢ c) w 0 i) → r ≡ place_in c w
+place_found c w r m = go r m (index_from_first (place c) (λ x. x ≡ c) (λ x. x ≢ c) refl (λ x xs h. place_head c x xs (sym h)) miss w r m)
+  where
+    miss : (x : ℕ) (xs : List ℕ) → x ≢ c → place c (x ∷ xs) ≡ place c xs + 1
+    miss x xs h = place_cons c x xs (λ e. h (sym e)) ∙ sym (add-one (place c xs))
 
-pub place_hit : (c : ℕ) (w : List ℕ) (i : ℕ) → place c w ≡ i + place c (drop i w) → i < length w → get_or w i 0 ≡ c → i ≡ place c w
-place_hit c w i inv h e =
-    let d : place c (drop i w) ≡ 0 = ap (place c) (drop-cons w i 0 h) ∙ place_head c (get_or w i 0) (drop (suc i) w) (sym e) in
-    omega arith
+    go : (r : Option ℕ) → MatchOption r (AllWithin (λ x. x ≢ c) w 0 (length w)) (λ i. (i < length w) × HoldsAt (λ x. x ≡ c) w i × AllWithin (λ x. x ≢ c) w 0 i)
+        → place c w ≡ unwrap_or r (length w) → r ≡ place_in c w
+    go None m e = let f : ltb (place c w) (length w) ≡ false = le-ltb _ _ (omega (arith, e)) in rw f
+    go (Some i) m e = let f : ltb (place c w) (length w) ≡ true = lt-ltb _ _ (omega (arith, e, m.0)) in rw f (ap Some (sym e))
 
-pub place_next : (c : ℕ) (w : List ℕ) (i : ℕ) → place c w ≡ i + place c (drop i w) → i < length w → (get_or w i 0 ≡ c → ⊥)
-    → place c w ≡ i + 1 + place c (drop (i + 1) w)
-place_next c w i inv h e =
-    let d : place c (drop i w) ≡ suc (place c (drop (suc i) w))
-    = ap (place c) (drop-cons w i 0 h) ∙ place_cons c (get_or w i 0) (drop (suc i) w) (λ q. e (sym q)) in
-    let s : place c (drop (suc i) w) ≡ place c (drop (i + 1) w) = ap (λ (k : ℕ). place c (drop k w)) (sym (add-one i)) in
-    omega arith
-
-pub place_end : (c : ℕ) (w : List ℕ) (i : ℕ) → place c w ≡ i + place c (drop i w) → length w ≤ i → i ≡ place c w
-place_end c w i inv h =
-    let d : place c (drop i w) ≡ 0 = ap (place c) (drop_of_length-le w {i = i} h) in
-    omega arith
+pub place_within : (c : ℕ) (w : List ℕ) → place c w ≤ length w
+place_within c [] = omega arith
+place_within c (x ∷ xs) = turn (eqb c x) (place_within c xs)
+  where
+    turn : (t : Bool) {m n : ℕ} → m ≤ n → elim t as (λ _. ℕ) [ true ↦ 0 | false ↦ suc m ] ≤ suc n
+    turn true h = omega arith
+    turn false h = omega (arith, h)
 
 -- ---- numbers
 
-pub digit_low : (n c : ℕ) → c < 48 → 256 ≡ next_number n c
-digit_low n c h = rw (lt-ltb c 48 h)
+pub small_none : (n : ℕ) → None ≡ small n → 256 ≤ n
+small_none n e = split n 256 (λ l. absurd (let f : small n ≡ Some n = rw (lt-ltb n 256 l) in cc)) (λ h. h)
 
-pub digit_high : (n c : ℕ) → 48 ≤ c → 57 < c → 256 ≡ next_number n c
-digit_high n c a h = rw (le-ltb c 48 a, lt-ltb 57 c h)
+pub none_small : (n : ℕ) → 256 ≤ n → None ≡ small n
+none_small n h = rw (le-ltb n 256 h)
 
-pub digit_fits : (n c : ℕ) → 48 ≤ c → c ≤ 57 → n * 10 + (c - 48) < 256 → n * 10 + (c - 48) ≡ next_number n c
-digit_fits n c a b h = rw (le-ltb c 48 a, le-ltb 57 c b, lt-ltb (n * 10 + (c - 48)) 256 h)
+pub small_is : (m n : ℕ) → Some m ≡ small n → m ≡ n
+small_is m n e =
+    split n 256
+    (λ l. let f : small n ≡ Some n = rw (lt-ltb n 256 l) in cc)
+    (λ h. absurd (let f : small n ≡ None = rw (le-ltb n 256 h) in cc))
 
-pub digit_over : (n c : ℕ) → 48 ≤ c → c ≤ 57 → 256 ≤ n * 10 + (c - 48) → 256 ≡ next_number n c
-digit_over n c a b h = rw (le-ltb c 48 a, le-ltb 57 c b, le-ltb (n * 10 + (c - 48)) 256 h)
+-- 256 stays
+next_over : (n c : ℕ) → 256 ≤ n → 256 ≤ next_number n c
+next_over n c h =
+    let e : ltb (n * 10 + (c - 48)) 256 ≡ false = le-ltb _ 256 (omega arith) in
+    rw e (go (ltb c 48) (ltb 57 c))
+  where
+    go : (a b : Bool) → 256 ≤ cond a 256 (cond b 256 256)
+    go true b = omega arith
+    go false true = omega arith
+    go false false = omega arith
 
-pub number_none : (w : List ℕ) → length w ≡ 0 → 256 ≡ number_of w
-number_none [] e = refl
-number_none (c ∷ cs) e = absurd (omega (arith, e))
+from_over : (n : ℕ) (w : List ℕ) → 256 ≤ n → 256 ≤ number_from n w
+from_over n [] h = h
+from_over n (c ∷ cs) h = from_over (next_number n c) cs (next_over n c h)
 
-pub number_start : (w : List ℕ) → (length w ≡ 0 → ⊥) → number_of w ≡ number_from 0 (drop 0 w)
+pub number_start : (w : List ℕ) → (length w ≡ 0 → ⊥) → number_of w ≡ number_from 0 w
 number_start [] h = absurd (h refl)
 number_start (c ∷ cs) h = refl
 
-pub number_next : (w : List ℕ) (n i m : ℕ) → number_of w ≡ number_from n (drop i w) → i < length w → m ≡ next_number n (get_or w i 0)
+number_step : (w : List ℕ) (n i : ℕ) → number_of w ≡ number_from n (drop i w) → i < length w → number_of w ≡ number_from (next_number n (get_or w i 0)) (drop (i + 1) w)
+number_step w n i inv h =
+    inv ∙ ap (number_from n) (drop-cons w i 0 h) ∙ ap (λ (j : ℕ). number_from (next_number n (get_or w i 0)) (drop j w)) (sym (add-one i))
+
+pub number_next : (w : List ℕ) (n i m : ℕ) → number_of w ≡ number_from n (drop i w) → i < length w → Some m ≡ small (next_number n (get_or w i 0))
     → number_of w ≡ number_from m (drop (i + 1) w)
 number_next w n i m inv h e =
-    inv ∙ ap (number_from n) (drop-cons w i 0 h)
-    ∙ ap₂ (λ (k j : ℕ). number_from k (drop j w)) (sym e) (sym (add-one i))
+    number_step w n i inv h ∙ ap (λ (k : ℕ). number_from k (drop (i + 1) w)) (sym (small_is m (next_number n (get_or w i 0)) e))
 
-pub number_end : (w : List ℕ) (n i : ℕ) → number_of w ≡ number_from n (drop i w) → length w ≤ i → n ≡ number_of w
-number_end w n i inv h = sym (inv ∙ ap (number_from n) (drop_of_length-le w {i = i} h))
+pub number_fails : (w : List ℕ) (n i : ℕ) → number_of w ≡ number_from n (drop i w) → i < length w → None ≡ small (next_number n (get_or w i 0)) → None ≡ small (number_of w)
+number_fails w n i inv h e =
+    let l : 256 ≤ number_from (next_number n (get_or w i 0)) (drop (i + 1) w) = from_over _ (drop (i + 1) w) (small_none _ e) in
+    none_small (number_of w) (omega (arith, l, number_step w n i inv h))
+
+pub number_end : (w : List ℕ) (n i : ℕ) → number_of w ≡ number_from n (drop i w) → length w ≤ i → n < 256 → Some n ≡ small (number_of w)
+number_end w n i inv h l =
+    let e : number_of w ≡ n = inv ∙ ap (number_from n) (drop_of_length-le w {i = i} h) in
+    let f : small n ≡ Some n = rw (lt-ltb n 256 l) in sym (ap small e ∙ f)
 
 -- ---- values of options
 
-pub first_is : (w : List ℕ) (d r : ℕ) → d ≡ place 45 w → r ≡ number_of (take (d - 0) (drop 0 w)) → r ≡ first_of w
-first_is w d r e q =
-    let z : d - 0 ≡ place 45 w = omega arith in
-    q ∙ ap (λ (k : ℕ). number_of (take k w)) z
+pub level_none : (w : List ℕ) → (length w ≡ 1 → ⊥) → None ≡ level_named w
+level_none w n =
+    rw (sym (unequal w (76 ∷ []) n), sym (unequal w (77 ∷ []) n), sym (unequal w (81 ∷ []) n), sym (unequal w (72 ∷ []) n))
 
-pub last_is : (w : List ℕ) (d r : ℕ) → d ≡ place 45 w → r ≡ number_of (take (length w - (d + 1)) (drop (d + 1) w)) → r ≡ last_of w
-last_is w d r e q =
-    let h : length (drop (d + 1) w) ≤ length w - (d + 1) = omega (arith, length-drop (d + 1) w) in
-    q ∙ ap number_of (take_all (length w - (d + 1)) (drop (d + 1) w) h) ∙ ap (λ (k : ℕ). number_of (drop (k + 1) w)) e
+pub switch_none : (w : List ℕ) → (length w ≡ 3 → ⊥) → (length w ≡ 2 → ⊥) → None ≡ switch_named w
+switch_none w m n = rw (sym (unequal w (111 ∷ 102 ∷ 102 ∷ []) m), sym (unequal w (111 ∷ 110 ∷ []) n))
 
-pub last_none : (w : List ℕ) (d : ℕ) → d ≡ place 45 w → length w ≤ d → 256 ≡ last_of w
-last_none w d e h = sym (ap number_of (drop_of_length-le w {i = place 45 w + 1} (omega arith)))
-
-module _ (w : List ℕ) (a : Bool) (p : a ≡ same w (76 ∷ [])) where
-  pub level_l : a ≡ true → 0 ≡ level_named w
-  level_l q = rw (sym p ∙ q)
-
-  module _ (n : a ≡ false) (b : Bool) (p' : b ≡ same w (77 ∷ [])) where
-    pub level_m : b ≡ true → 1 ≡ level_named w
-    level_m q = rw (sym p ∙ n, sym p' ∙ q)
-
-    module _ (n' : b ≡ false) (d : Bool) (p'' : d ≡ same w (81 ∷ [])) where
-      pub level_q : d ≡ true → 2 ≡ level_named w
-      level_q q = rw (sym p ∙ n, sym p' ∙ n', sym p'' ∙ q)
-
-      module _ (n'' : d ≡ false) (e : Bool) (p''' : e ≡ same w (72 ∷ [])) where
-        pub level_h : e ≡ true → 3 ≡ level_named w
-        level_h q = rw (sym p ∙ n, sym p' ∙ n', sym p'' ∙ n'', sym p''' ∙ q)
-
-        pub level_none : e ≡ false → 4 ≡ level_named w
-        level_none q = rw (sym p ∙ n, sym p' ∙ n', sym p'' ∙ n'', sym p''' ∙ q)
-
-module _ (w : List ℕ) (a : Bool) (p : a ≡ same w (97 ∷ 117 ∷ 116 ∷ 111 ∷ [])) where
-  pub mask_auto : a ≡ true → 8 ≡ mask_named w
-  mask_auto q = rw (sym p ∙ q)
-
-  module _ (q : a ≡ false) (n : ℕ) (e : n ≡ number_of w) where
-    pub mask_is : n < 8 → n ≡ mask_named w
-    mask_is h = let t : ltb (number_of w) 8 ≡ true = lt-ltb (number_of w) 8 (omega arith) in e ∙ rw (sym p ∙ q, t)
-
-    pub mask_none : 8 ≤ n → 256 ≡ mask_named w
-    mask_none h = let t : ltb (number_of w) 8 ≡ false = le-ltb (number_of w) 8 (omega arith) in rw (sym p ∙ q, t)
-
-module _ (w : List ℕ) (a : Bool) (p : a ≡ same w (111 ∷ 102 ∷ 102 ∷ [])) where
-  pub switch_off : a ≡ true → 0 ≡ switch_named w
-  switch_off q = rw (sym p ∙ q)
-
-  module _ (q : a ≡ false) (b : Bool) (p' : b ≡ same w (111 ∷ 110 ∷ [])) where
-    pub switch_on : b ≡ true → 1 ≡ switch_named w
-    switch_on r = rw (sym p ∙ q, sym p' ∙ r)
-
-    pub switch_none : b ≡ false → 2 ≡ switch_named w
-    switch_none r = rw (sym p ∙ q, sym p' ∙ r)
-
--- ---- the line
-
-pub line_ends : (t : List ℕ) → get_or t (length t - 1) 0 ≡ 10 → length t - 1 ≡ line_length t
-line_ends t e = ap (λ (b : Bool). length t - one b) (sym (eq-eqb (get_or t (length t - 1) 0) 10 e))
-
-pub line_goes_on : (t : List ℕ) → (get_or t (length t - 1) 0 ≡ 10 → ⊥) → length t ≡ line_length t
-line_goes_on t e =
-    is (length t) ∙ ap (λ (b : Bool). length t - one b) (sym (ne_eqb (get_or t (length t - 1) 0) 10 e))
-  where
-    is : (n : ℕ) → n ≡ n - 0
-    is n = omega arith
-
-pub line_empty : (t : List ℕ) → length t ≡ 0 → 0 ≡ line_length t
-line_empty [] e = refl
-line_empty (c ∷ cs) e = absurd (omega (arith, e))
+pub switch_second : (w : List ℕ) → length w ≡ 3 → get_or w 1 0 ≢ 102 → None ≡ switch_named w
+switch_second w l n =
+    rw (differ w (111 ∷ 102 ∷ 102 ∷ []) 1 n, sym (unequal w (111 ∷ 110 ∷ []) (λ e. omega (arith, l, e))))

@@ -1,12 +1,22 @@
 -- What the words of the command line mean, and what is taken off a line.
 -- Assumes nothing.
-use Rattle.std.specs.Prelude.{ℕ, ◌+◌, ◌-◌, ◌*◌, Bool, cond, List, [], ◌∷◌, ltb, eqb, length, get_or, take, drop}
+use Rattle.std.specs.Prelude.{ℕ, ◌+◌, ◌-◌, ◌*◌, Bool, true, false, ◌&&◌, Option, Some, None, cond, List, [], ◌∷◌, ltb, eqb, length, get_or, take, drop}
 use Rattle.standard.specs.Numbers.{one, place, same}
+use Rattle.types.specs.declared.QrCodeEcc.{QrCodeEcc}
+use Rattle.types.specs.declared.QrCodeEcc.TheVariants.{Low, Medium, Quartile, High}
 
 abbrev pub begins_with : List ℕ → List ℕ → Bool
 begins_with t w = same (take (length w) t) w
 
+-- where a byte first stands in a word
+abbrev pub place_in : ℕ → List ℕ → Option ℕ
+place_in c w = cond (ltb (place c w) (length w)) (Some (place c w)) None
+
 -- ---- numbers; 256 stands for no number
+
+-- a number that fits a byte
+abbrev pub small : ℕ → Option ℕ
+small n = cond (ltb n 256) (Some n) None
 
 -- the number after one digit more
 abbrev pub next_number : ℕ → ℕ → ℕ
@@ -30,20 +40,28 @@ first_of w = number_of (take (place 45 w) w)
 abbrev pub last_of : List ℕ → ℕ
 last_of w = number_of (drop (place 45 w + 1) w)
 
--- L, M, Q, H; 4 for no level
-abbrev pub level_named : List ℕ → ℕ
-level_named w = cond (same w (76 ∷ [])) 0 (cond (same w (77 ∷ [])) 1 (cond (same w (81 ∷ [])) 2 (cond (same w (72 ∷ [])) 3 4)))
+abbrev pub versions_named : List ℕ → Option (ℕ × ℕ)
+versions_named w = cond (ltb (first_of w) 256 && ltb (last_of w) 256) (Some (first_of w, last_of w)) None
 
--- auto (8), 0 to 7; 256 for no mask
-abbrev pub mask_named : List ℕ → ℕ
-mask_named w = cond (same w (97 ∷ 117 ∷ 116 ∷ 111 ∷ [])) 8 (cond (ltb (number_of w) 8) (number_of w) 256)
+-- L, M, Q, H
+abbrev pub level_named : List ℕ → Option QrCodeEcc
+level_named w =
+    cond (same w (76 ∷ [])) (Some Low) (cond (same w (77 ∷ [])) (Some Medium) (cond (same w (81 ∷ [])) (Some Quartile) (cond (same w (72 ∷ [])) (Some High) None)))
 
--- off, on; 2 for neither
-abbrev pub switch_named : List ℕ → ℕ
-switch_named w = cond (same w (111 ∷ 102 ∷ 102 ∷ [])) 0 (cond (same w (111 ∷ 110 ∷ [])) 1 2)
+-- auto (8), 0 to 7
+abbrev pub mask_named : List ℕ → Option ℕ
+mask_named w = cond (same w (97 ∷ 117 ∷ 116 ∷ 111 ∷ [])) (Some 8) (cond (ltb (number_of w) 8) (Some (number_of w)) None)
+
+-- off, on
+abbrev pub switch_named : List ℕ → Option Bool
+switch_named w = cond (same w (111 ∷ 102 ∷ 102 ∷ [])) (Some false) (cond (same w (111 ∷ 110 ∷ [])) (Some true) None)
 
 -- ---- the line
 
 -- the length of a text without the newline at its end, if there is one
 abbrev pub line_length : List ℕ → ℕ
 line_length t = length t - one (eqb (get_or t (length t - 1) 0) 10)
+
+-- the text without it
+abbrev pub line : List ℕ → List ℕ
+line t = take (line_length t) t

@@ -1,69 +1,94 @@
 // Text that is put together in lent memory before it is written: words, numbers, the line under a picture, escaped bytes.
-ghost use Rattle.std.specs.Prelude.{◌≡◌, ◌+◌, ◌*◌, ◌≤◌, ◌<◌, length};
-ghost use Rattle.terminal.specs.Text.{Said, decimal, letter as letter_of, caption as caption_of, hex_digit, hexed, escaped_byte, escaped};
+ghost use Rattle.std.specs.Prelude.{◌≡◌, ◌+◌, ◌*◌, ◌≤◌, ◌<◌, [], ◌∷◌, length, take};
+ghost use Rattle.types.specs.Numbers.{level_of};
+ghost use Rattle.terminal.specs.Text.{decimal, letter as letter_of, caption as caption_of, hex_digit, hexed, escaped_byte, escaped};
+ghost use Rattle.terminal.specs.Adds.{Adds, HasRoom};
 
-// Puts words at a place, and returns the place after them.
-pub fn say(out: &mut [u8], at: usize, words: &[u8]) -> usize
-    requires { at + length words.now ≤ length out.old }
-    ensures { Said out.old at words.now out.new result }
-{
-    let mut i: usize = 0;
-    while i < words.len() {
-        out[at + i] = words[i];
-        i += 1;
-    }
-    at + words.len()
+use types::QrCodeEcc;
+
+// A text that stands at the start of lent memory.
+pub struct Text<'a> {
+    memory: &'a mut [u8],
+    len: usize,
 }
 
-// Puts a number in decimal.
-fn number(out: &mut [u8], at: usize, n: u8) -> usize
-    requires { at + 3 ≤ length out.old }
-    ensures { Said out.old at (decimal n) out.new result × (result ≤ at + 3) }
+impl<'a> Text<'a> {
+    // An empty text.
+    pub fn new(memory: &'a mut [u8]) -> Text<'a>
+        ensures same_memory { result.memory.ghost_name ≡ memory.entry.ghost_name }
+        ensures unchanged { result.memory.now ≡ memory.old }
+        ensures empty { result.len ≡ 0 }
+    {
+        Text { memory, len: 0 }
+    }
+
+    // Puts a byte behind the text.
+    pub fn push(&mut self, c: u8)
+        requires { HasRoom self.old 1 }
+        ensures { Adds self.old (c ∷ []) self.new }
+    {
+        self.say(&[c]);
+    }
+
+    // Puts words behind the text.
+    pub fn say(&mut self, words: &[u8])
+        requires { HasRoom self.old (length words.now) }
+        ensures { Adds self.old words.now self.new }
+    {
+        let start = self.len;
+        let end = start + words.len();
+        let memory = &mut *self.memory;
+        memory[start..end].copy_from_slice(words);
+        self.len = end;
+    }
+
+    // The text.
+    pub fn bytes(&self) -> &[u8]
+        requires { HasRoom self.now 0 }
+        ensures { result.now ≡ take self.now.len self.now.memory.now }
+    {
+        &self.memory[..self.len]
+    }
+}
+
+// Puts a number in decimal behind a text.
+fn number(out: &mut Text, n: u8)
+    requires { HasRoom out.old 3 }
+    ensures said { Adds out.old (decimal n) out.new }
+    ensures bound { out.new.len ≤ out.old.len + 3 }
 {
-    if n < 10 {
-        out[at] = 48 + n;
-        return at + 1;
+    match n {
+        0..=9 => out.say(&[b'0' + n]),
+        10..=99 => out.say(&[b'0' + n / 10, b'0' + n % 10]),
+        _ => out.say(&[b'0' + n / 100, b'0' + n / 10 % 10, b'0' + n % 10]),
     }
-    if n < 100 {
-        out[at] = 48 + n / 10;
-        out[at + 1] = 48 + n % 10;
-        return at + 2;
-    }
-    out[at] = 48 + n / 100;
-    out[at + 1] = 48 + n / 10 % 10;
-    out[at + 2] = 48 + n % 10;
-    at + 3
 }
 
 // The letter of a level.
-pub fn letter(level: usize) -> u8
-    ensures { result ≡ letter_of level }
+pub fn letter(level: QrCodeEcc) -> u8
+    ensures { result ≡ letter_of (level_of level) }
 {
-    if level == 0 {
-        return 76;
+    match level {
+        QrCodeEcc::Low => b'L',
+        QrCodeEcc::Medium => b'M',
+        QrCodeEcc::Quartile => b'Q',
+        QrCodeEcc::High => b'H',
     }
-    if level == 1 {
-        return 77;
-    }
-    if level == 2 {
-        return 81;
-    }
-    72
 }
 
-// Puts the line that says which label it is.
-pub fn caption(out: &mut [u8], at: usize, version: u8, level: usize, mask: u8) -> usize
-    requires { at + 40 ≤ length out.old }
-    ensures { Said out.old at (caption_of version level mask) out.new result × (result ≤ at + 40) }
+// Puts the line that says which label it is behind a text.
+pub fn caption(out: &mut Text, version: u8, level: QrCodeEcc, mask: u8)
+    requires { HasRoom out.old 40 }
+    ensures said { Adds out.old (caption_of version (level_of level) mask) out.new }
+    ensures bound { out.new.len ≤ out.old.len + 40 }
 {
-    let after_version = say(out, at, b"version ");
-    let of_version = number(out, after_version, version);
-    let after_level = say(out, of_version, b", level ");
-    let name = [letter(level)];
-    let of_level = say(out, after_level, &name);
-    let after_mask = say(out, of_level, b", mask ");
-    let of_mask = number(out, after_mask, mask);
-    say(out, of_mask, b"\n")
+    out.say(b"version ");
+    number(out, version);
+    out.say(b", level ");
+    out.push(letter(level));
+    out.say(b", mask ");
+    number(out, mask);
+    out.say(b"\n");
 }
 
 // A digit in base 16.
@@ -71,54 +96,36 @@ fn hex_digit(n: u8) -> u8
     requires { n < 16 }
     ensures { result ≡ hex_digit n }
 {
-    if n < 10 {
-        return 48 + n;
-    }
-    87 + n
+    if n < 10 { b'0' + n } else { b'a' + (n - 10) }
 }
 
-// Puts a byte as \xNN.
-fn hex(out: &mut [u8], at: usize, c: u8) -> usize
-    requires { at + 4 ≤ length out.old }
-    ensures { Said out.old at (hexed c) out.new result × (result ≤ at + 4) }
+// Puts a byte as \xNN behind a text.
+fn hex(out: &mut Text, c: u8)
+    requires { HasRoom out.old 4 }
+    ensures { Adds out.old (hexed c) out.new }
 {
-    let high = hex_digit(c / 16);
-    let low = hex_digit(c % 16);
-    out[at] = 92;
-    out[at + 1] = 120;
-    out[at + 2] = high;
-    out[at + 3] = low;
-    at + 4
+    out.say(&[b'\\', b'x', hex_digit(c / 16), hex_digit(c % 16)]);
 }
 
 // Puts a byte as itself where a terminal can show it, and else as \xNN; the backslash as \x5c, so that the bytes can be told.
-fn escape_byte(out: &mut [u8], at: usize, c: u8) -> usize
-    requires { at + 4 ≤ length out.old }
-    ensures { Said out.old at (escaped_byte c) out.new result × (result ≤ at + 4) }
+fn escape_byte(out: &mut Text, c: u8)
+    requires { HasRoom out.old 4 }
+    ensures said { Adds out.old (escaped_byte c) out.new }
+    ensures bound { out.new.len ≤ out.old.len + 4 }
 {
-    if c < 32 {
-        return hex(out, at, c);
+    match c {
+        b'\\' => hex(out, c),
+        b' '..=b'~' => out.push(c),
+        _ => hex(out, c),
     }
-    if 126 < c {
-        return hex(out, at, c);
-    }
-    if c == 92 {
-        return hex(out, at, c);
-    }
-    out[at] = c;
-    at + 1
 }
 
-// Puts a text, escaped.
-pub fn escape(out: &mut [u8], start: usize, text: &[u8]) -> usize
-    requires { start + 4 * length text.now ≤ length out.old }
-    ensures { Said out.old start (escaped text.now) out.new result × (result ≤ length out.old) }
+// Puts a text, escaped, behind another.
+pub fn escape(out: &mut Text, text: &[u8])
+    requires { HasRoom out.old (4 * length text.now) }
+    ensures { Adds out.old (escaped text.now) out.new }
 {
-    let mut at: usize = start;
-    let mut i: usize = 0;
-    while i < text.len() {
-        at = escape_byte(out, at, text[i]);
-        i += 1;
+    for c in text {
+        escape_byte(out, *c);
     }
-    at
 }

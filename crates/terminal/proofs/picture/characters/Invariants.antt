@@ -1,12 +1,9 @@
--- `terminal::picture::characters` meets its contract.
+-- `terminal::picture::characters`: so many characters are put.
 -- Assumes nothing.
-use Prim.Native.Nat.{◌+◌, ◌-◌, ◌*◌, ◌≤◌}
-use Rattle.terminal.specs.Text.{Said}
+use Rattle.std.proofs.Common.{◌+◌, ◌*◌, ◌≤◌}
 use Rattle.terminal.specs.Picture.{characters}
+use Rattle.terminal.specs.Adds.{Adds}
 use Rattle.terminal.proofs.picture.characters.Given as goal
 
 abbrev pub invariant-loop-x : goal.invariant-loop-x
-invariant-loop-x l = Said l.initial.out l.start (characters l.side l.grid l.y l.x) l.out l.at × (l.x ≤ l.side + 8) × (l.at ≤ l.start + 3 * l.x)
-
-abbrev pub decreases-loop-x : goal.decreases-loop-x
-decreases-loop-x l = l.side + 8 - l.x
+invariant-loop-x l = Adds l.initial.out (characters l.side l.grid l.y l.x) l.out × (l.out.len ≤ l.initial.out.len + 3 * l.x)

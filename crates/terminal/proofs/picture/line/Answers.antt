@@ -1,11 +1,10 @@
--- `terminal::picture::line` meets its contract.
+-- `terminal::picture::line`: the colours around the characters.
 -- Assumes nothing.
-use native.Mathlib.Omega.{arith}
-use Rattle.std.proofs.Common.{rules}
+use Rattle.std.proofs.Common.{arith}
 use Rattle.terminal.specs.PictureLaws.{line_said}
 use Rattle.terminal.proofs.picture.line.Goals as goal
 
-pub returns : goal.returns
-returns c =
+pub returns-clause-said : goal.returns-clause-said
+returns-clause-said c =
     let a = c.args in
-    (line_said a.side a.grid.now a.y _ _ _ _ _ _ _ _ c.say.ensures c.characters-modules.ensures.0 c.say-black_on_white.ensures (omega arith), search rules)
+    (line_said a.side a.grid.now a.y _ _ _ _ _ _ _ _ c.say-2.ensures.0 c.characters.ensures.said.0 c.say.ensures.0 (omega arith), cc)

@@ -1,14 +1,9 @@
--- `terminal::scan::rows` meets its contract.
+-- `terminal::scan::rows`: so many modules are read.
 -- Assumes nothing.
-use Prim.Native.Nat.{◌-◌, ◌≤◌}
-use mathlib.Core.Path.{◌≡◌}
-use lib.ListN.{length}
+use Rattle.std.proofs.Common.{◌≡◌, length}
 use Rattle.laws.specs.Each.{each_done}
 use Rattle.terminal.specs.Scan.{row_module}
 use Rattle.terminal.proofs.scan.rows.Given as goal
 
 abbrev pub invariant-loop-k : goal.invariant-loop-k
-invariant-loop-k l = (l.grid ≡ each_done l.k (λ n _. row_module l.side l.text n) l.initial.grid) × (l.k ≤ l.k-end) × (length l.grid ≡ l.k-end) × (l.k-end ≤ 65536)
-
-abbrev pub decreases-loop-k : goal.decreases-loop-k
-decreases-loop-k l = l.k-end - l.k
+invariant-loop-k l = (l.grid ≡ each_done l.k (λ n _. row_module l.side l.text n) l.initial.grid) × (length l.grid ≡ l.k-end)

@@ -1,4 +1,4 @@
--- `terminal::scan::scan` meets its contract.
+-- `terminal::scan::scan`: one module more.
 -- Assumes nothing.
 use Rattle.std.proofs.Common.{rules}
 use Rattle.laws.specs.Each.{each_start, each_next}

@@ -1,11 +1,10 @@
--- `terminal::text::caption` meets its contract.
+-- `terminal::text::caption`: seven texts, one behind the other.
 -- Assumes nothing.
-use native.Mathlib.Omega.{arith}
-use Rattle.std.proofs.Common.{rules}
+use Rattle.std.proofs.Common.{arith}
+use Rattle.types.specs.Numbers.{level_of}
 use Rattle.terminal.specs.TextLaws.{caption_said}
 use Rattle.terminal.proofs.text.caption.Goals as goal
 
-pub returns : goal.returns
-returns c =
-    let a = c.args in
-    (caption_said a.version a.level a.mask _ c.say.ensures c.number-of_mask.ensures.0 c.say-after_mask.ensures c.say-of_level.ensures c.letter.ensures c.say-after_level.ensures c.number-of_version.ensures.0 c.say-after_version.ensures (omega arith), search rules)
+pub returns-clause-said : goal.returns-clause-said
+returns-clause-said c =
+    (caption_said c.args.version (level_of c.args.level) c.args.mask _ c.say-4.ensures.0 c.number-2.ensures.said.0 c.say-3.ensures.0 c.push.ensures.0 c.letter.ensures c.say-2.ensures.0 c.number.ensures.said.0 c.say.ensures.0 (omega arith), cc)

@@ -1,15 +1,16 @@
--- `terminal::text::escape` meets its contract.
+-- `terminal::text::escape`: one byte behind the others.
 -- Assumes nothing.
-use native.Mathlib.Omega.{arith}
-use Rattle.std.proofs.Common.{rules}
+use Rattle.std.proofs.Common.{rules, arith}
 use Rattle.terminal.specs.TextLaws.{escape_start, escape_next, escape_end}
 use Rattle.terminal.proofs.text.escape.Goals as goal
 
-pub loop-i-init : goal.loop-i-init
-loop-i-init c = search (escape_start, rules)
+pub loop-c-init : goal.loop-c-init
+loop-c-init c = search (escape_start, rules)
 
-pub loop-i-preserved : goal.loop-i-preserved
-loop-i-preserved c = (escape_next c.args.text.now _ _ _ _ _ _ c.loop-i.i c.escape_byte-at.ensures.0 c.loop-i.invariant.0 (omega arith), search rules, search rules)
+pub loop-c-preserved : goal.loop-c-preserved
+loop-c-preserved c =
+    let i = c.loop-c.invariant in
+    ((escape_next c.args.text.now _ _ _ _ _ _ c.loop-c.c-index c.escape_byte.ensures.said.0 i.0.0 (omega arith), cc), omega arith)
 
 pub returns : goal.returns
 returns c = search (escape_end, rules)

@@ -1,12 +1,9 @@
--- `terminal::text::escape` meets its contract.
+-- `terminal::text::escape`: so many bytes are escaped.
 -- Assumes nothing.
-use Prim.Native.Nat.{◌+◌, ◌-◌, ◌*◌, ◌≤◌}
-use lib.ListN.{length}
-use Rattle.terminal.specs.Text.{Said, escaped_to}
+use Rattle.std.proofs.Common.{◌+◌, ◌*◌, ◌≤◌}
+use Rattle.terminal.specs.Text.{escaped_to}
+use Rattle.terminal.specs.Adds.{Adds}
 use Rattle.terminal.proofs.text.escape.Given as goal
 
-abbrev pub invariant-loop-i : goal.invariant-loop-i
-invariant-loop-i l = Said l.initial.out l.start (escaped_to l.text l.i) l.out l.at × (l.i ≤ length l.text) × (l.at ≤ l.start + 4 * l.i)
-
-abbrev pub decreases-loop-i : goal.decreases-loop-i
-decreases-loop-i l = length l.text - l.i
+abbrev pub invariant-loop-c : goal.invariant-loop-c
+invariant-loop-c l = Adds l.initial.out (escaped_to l.text l.c-index) l.out × (l.out.len ≤ l.initial.out.len + 4 * l.c-index)

@@ -1,17 +1,12 @@
--- `terminal::words::place` meets its contract.
+-- `terminal::words::place`: the position of the byte.
 -- Assumes nothing.
-use Rattle.std.proofs.Common.{rules}
-use Rattle.terminal.specs.WordLaws.{place_start, place_hit, place_next, place_end}
+use Rattle.std.proofs.Common.{rules, tests, ◌≡◌, ◌≢◌}
+use Rattle.std.proofs.lemmas.Iterator.{YieldsList-from_slice, IsFirst-from_position}
+use Rattle.terminal.specs.WordLaws.{place_found}
 use Rattle.terminal.proofs.words.place.Goals as goal
 
-pub loop-i-init : goal.loop-i-init
-loop-i-init c = search (place_start, rules)
-
-pub returns-then-word-i : goal.returns-then-word-i
-returns-then-word-i c = search (place_hit, rules)
-
-pub loop-i-preserved : goal.loop-i-preserved
-loop-i-preserved c = search (place_next, rules)
-
-pub returns : goal.returns
-returns c = search (place_end, rules)
+pub returns-clause-value : goal.returns-clause-value
+returns-clause-value c =
+    place_found c.args.c c.args.word.now _
+    (IsFirst-from_position c.position.new.self _ _ (λ x. x ≡ c.args.c) (λ x. x ≢ c.args.c) c.position.ensures.ran (YieldsList-from_slice c.args.word.now cc)
+    (λ x q k. search (rules, tests)) (λ x q k. search (rules, tests)))

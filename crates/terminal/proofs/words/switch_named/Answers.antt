@@ -1,14 +1,14 @@
--- `terminal::words::switch_named` meets its contract.
+-- `terminal::words::switch_named`: a word of another length, or with another byte, is none.
 -- Assumes nothing.
-use Rattle.std.proofs.Common.{rules}
-use Rattle.terminal.specs.WordLaws.{switch_off, switch_on, switch_none}
+use Rattle.std.proofs.Common.{rules, arith}
+use Rattle.terminal.specs.WordLaws.{switch_none, switch_second}
 use Rattle.terminal.proofs.words.switch_named.Goals as goal
 
-pub returns-then-same : goal.returns-then-same
-returns-then-same c = search (switch_off, rules)
+pub returns-in_default : goal.returns-in_default
+returns-in_default c = switch_none c.args.word.now (λ e. omega arith) (λ e. omega arith)
 
-pub returns-then-same-2 : goal.returns-then-same-2
-returns-then-same-2 c = search (switch_on, rules)
+pub returns-in_default-5 : goal.returns-in_default-5
+returns-in_default-5 c = switch_second c.args.word.now (omega arith) (search rules)
 
-pub returns : goal.returns
-returns c = search (switch_none, rules)
+pub returns-in_default-7 : goal.returns-in_default-7
+returns-in_default-7 c = switch_none c.args.word.now (λ e. omega arith) (λ e. omega arith)
