@@ -1,6 +1,6 @@
 -- The buffers are large enough.
 -- Assumes nothing.
-use Rattle.std.specs.Prelude.{ℕ, ◌-◌, ◌/◌, ◌≤◌, min, ◌≡◌, length, take, replicate}
+use Rattle.std.specs.Prelude.{ℕ, ◌/◌, ◌≤◌, min, ◌≡◌, length, take, replicate}
 use Rattle.std.proofs.Common.{ap, ◌∙◌, arith, length-take}
 use Rattle.std.proofs.lemmas.List.{length-replicate}
 use Rattle.standard.specs.Sizes.{raw_modules, raw_codewords, data_codewords}
@@ -14,5 +14,5 @@ pub data_less : (v l : ℕ) → 1 ≤ v → v ≤ 40 → l ≤ 3 → data_codewo
 data_less v l low high level = let p : PairRange v l = pair_range v l low high level in omega arith
 
 -- the part of a buffer that is lent
-pub lent : (k n m : ℕ) → n ≡ m → n ≤ k → length (take (n - 0) (replicate {A = ℕ} k 0)) ≡ m
-lent k n m e h = length-take (n - 0) (replicate {A = ℕ} k 0) ∙ ap (λ (z : ℕ). min (n - 0) z) (length-replicate {A = ℕ} k 0) ∙ omega arith
+pub lent : (k n m : ℕ) → n ≡ m → n ≤ k → length (take n (replicate {A = ℕ} k 0)) ≡ m
+lent k n m e h = length-take n (replicate {A = ℕ} k 0) ∙ ap (λ (z : ℕ). min n z) (length-replicate {A = ℕ} k 0) ∙ omega arith

@@ -2,12 +2,11 @@
 // a line says, stands in tools/vectors/blocks.rs. The data codewords are also taken out of all codewords again.
 #![tactic(auto)]
 
-ghost use Rattle.std.specs.Prelude.{◌≡◌, ◌<◌, ◌≤◌, length};
-ghost use Rattle.standard.specs.Sizes.{raw_codewords, data_codewords};
-ghost use Rattle.types.specs.Numbers.{level_of};
+ghost use Rattle.std.specs.Prelude.{◌<◌, ◌≤◌, length};
 
+use listing::{digest, digit, fill_random, four, is_byte, level};
 use std::io::Read;
-use streams::read_full;
+use streams::{read_byte, read_full};
 use types::{QrCodeEcc, Version};
 
 // How many cases were compared in full and by digests, how many of them differ, and how many
@@ -18,7 +17,25 @@ struct Tally {
     digests: u64,
     differ: u64,
     lost: u64,
-    more: bool,
+}
+
+// Of a case: whether it was compared in full, whether all codewords are those of the list,
+// and whether the data codewords were found again.
+#[derive(Clone, Copy)]
+struct Compared {
+    in_full: bool,
+    same: bool,
+    found: bool,
+}
+
+impl Tally {
+    // Counts a case.
+    fn count(&mut self, case: Compared) {
+        self.full = self.full.saturating_add(u64::from(case.in_full));
+        self.digests = self.digests.saturating_add(u64::from(!case.in_full));
+        self.differ = self.differ.saturating_add(u64::from(!case.same));
+        self.lost = self.lost.saturating_add(u64::from(!case.found));
+    }
 }
 
 fn main(rt: HostRuntime) {
@@ -36,234 +53,87 @@ fn told(rt: &impl Print, words: &[u8], n: u64) {
     streams::say(rt, b"\n");
 }
 
-// All lines.
+// All lines, 1000 at most.
 fn replay(input: &mut impl Read) -> Tally {
     let mut t = Tally {
         full: 0,
         digests: 0,
         differ: 0,
         lost: 0,
-        more: true,
     };
-    let mut turns: u64 = 1000;
-    while 0 < turns {
-        t = line(input, t);
-        if t.more {
-            turns -= 1;
-        } else {
-            turns = 0;
+    for _ in 0..1000u16 {
+        match line(input) {
+            Some(case) => t.count(case),
+            None => return t,
         }
     }
     t
 }
 
 // One line. A version that is none ends the list.
-fn line(input: &mut impl Read, t: Tally) -> Tally {
+fn line(input: &mut impl Read) -> Option<Compared> {
     let mut head = [0u8; 7];
-    let got = read_full(input, &mut head);
-    if got < 7 {
-        return ended(t);
+    if read_full(input, &mut head) < 7 {
+        return None;
     }
-    let n = Version::new(digit(head[2]) * 10 + digit(head[3]));
-    match n {
-        Some(ver) => case(input, t, head[0], ver, level(head[5])),
-        None => ended(t),
-    }
+    let ver = Version::new(digit(head[2]) * 10 + digit(head[3]))?;
+    Some(case(input, head[0] == b'F', ver, level(head[5])))
 }
 
-// The list has ended.
-fn ended(t: Tally) -> Tally {
-    Tally {
-        full: t.full,
-        digests: t.digests,
-        differ: t.differ,
-        lost: t.lost,
-        more: false,
-    }
-}
-
-// The value of a digit.
-fn digit(c: u8) -> u8
-    ensures { result ≤ 9 }
-{
-    c % 16 % 10
-}
-
-// The level of a digit.
-fn level(c: u8) -> QrCodeEcc {
-    match c {
-        b'0' => QrCodeEcc::Low,
-        b'1' => QrCodeEcc::Medium,
-        b'2' => QrCodeEcc::Quartile,
-        _ => QrCodeEcc::High,
-    }
-}
-
-// One case, in buffers of the size that the largest version needs.
-fn case(input: &mut impl Read, t: Tally, kind: u8, ver: Version, ecl: QrCodeEcc) -> Tally
-{
+// One case, in buffers of the size that the largest version needs: makes all codewords,
+// and the data codewords from them, and compares both.
+fn case(input: &mut impl Read, in_full: bool, ver: Version, ecl: QrCodeEcc) -> Compared {
     let n = capacity::get_num_data_codewords(ver, ecl);
     let m = capacity::get_num_raw_data_modules(ver) / 8;
-    let mut data: [u8; 2956] = [0; 2956];
-    let mut all: [u8; 3706] = [0; 3706];
-    let mut back: [u8; 2956] = [0; 2956];
-    compared(
-        input,
-        t,
-        kind,
-        ver,
-        ecl,
-        &mut data[0..n],
-        &mut all[0..m],
-        &mut back[0..n],
-    )
-}
-
-// Makes all codewords, and the data codewords from them, and compares both.
-fn compared(
-    input: &mut impl Read,
-    t: Tally,
-    kind: u8,
-    ver: Version,
-    ecl: QrCodeEcc,
-    data: &mut [u8],
-    all: &mut [u8],
-    back: &mut [u8],
-) -> Tally
-    requires data_len { (length «data».old ≡ data_codewords ver.value (level_of ecl)) × (length back.old ≡ data_codewords ver.value (level_of ecl)) × (length all.old ≡ raw_codewords ver.value) }
-{
-    fill(data, seed(ver.value(), ecl.ordinal()));
+    let mut data_room = [0u8; 2956];
+    let mut all_room = [0u8; 3706];
+    let mut back_room = [0u8; 2956];
+    let data = &mut data_room[..n];
+    let all = &mut all_room[..m];
+    let back = &mut back_room[..n];
+    fill_random(data, seed(ver, ecl));
     blocks::add_ecc_and_interleave(ver, ecl, data, all);
     blocks::data_words(ver, ecl, all, back);
-    let found = *data == *back;
-    if kind == b'F' {
-        return in_full(t, equal(input, all), found);
+    Compared {
+        in_full,
+        same: if in_full {
+            is_line(input, all)
+        } else {
+            is_digests(input, all, n)
+        },
+        found: *data == *back,
     }
-    by_digests(t, digests(input, all, data.len()), found)
-}
-
-// A case that was compared in full.
-fn in_full(t: Tally, equal: bool, found: bool) -> Tally {
-    Tally {
-        full: counted(t.full, false),
-        digests: t.digests,
-        differ: counted(t.differ, equal),
-        lost: counted(t.lost, found),
-        more: true,
-    }
-}
-
-// A case that was compared by digests.
-fn by_digests(t: Tally, equal: bool, found: bool) -> Tally {
-    Tally {
-        full: t.full,
-        digests: counted(t.digests, false),
-        differ: counted(t.differ, equal),
-        lost: counted(t.lost, found),
-        more: true,
-    }
-}
-
-// One more, unless all was well.
-fn counted(n: u64, well: bool) -> u64 {
-    if well {
-        return n;
-    }
-    if n < 1000 {
-        return n + 1;
-    }
-    n
 }
 
 // Where the pseudo-random numbers of a case start.
-fn seed(v: u8, l: usize) -> u64
-    requires { l ≤ 3 }
+fn seed(ver: Version, ecl: QrCodeEcc) -> u64
     ensures { result < 2147483648 }
 {
-    wide(v) * 4 + l as u64
-}
-
-// Fills in pseudo-random data.
-fn fill(data: &mut [u8], seed: u64)
-    requires { seed < 2147483648 }
-{
-    let mut x = seed;
-    let mut i = 0;
-    while i < data.len() {
-        x = (x * 1103515245 + 12345) % 2147483648;
-        data[i] = (x / 65536 % 256) as u8;
-        i += 1;
-    }
+    u64::from(ver.value()) * 4 + ecl.ordinal() as u64
 }
 
 // Whether the rest of the line has these bytes.
-fn equal(input: &mut impl Read, bytes: &[u8]) -> bool {
-    let mut good = true;
-    let mut i = 0;
-    while i < bytes.len() {
-        if !next_is(input, bytes[i]) {
-            good = false;
-        }
-        i += 1;
-    }
-    end_of_line(input, good)
+fn is_line(input: &mut impl Read, bytes: &[u8]) -> bool {
+    let same = are_next(input, bytes);
+    let ended = read_byte(input) == Some(b'\n');
+    same && ended
 }
 
 // Whether the rest of the line has the digests of the first n bytes and of the others.
-fn digests(input: &mut impl Read, bytes: &[u8], n: usize) -> bool
+fn is_digests(input: &mut impl Read, bytes: &[u8], n: usize) -> bool
     requires { n ≤ length bytes.now }
 {
-    let first = number_is(input, digest(&bytes[0..n]));
-    let second = number_is(input, digest(&bytes[n..]));
-    end_of_line(input, first && second)
+    let first = are_next(input, &four(digest(&bytes[..n])));
+    is_line(input, &four(digest(&bytes[n..]))) && first
 }
 
-// A digest of bytes: each counts by its place.
-fn digest(bytes: &[u8]) -> u64
-    ensures { result < 4294967291 }
-{
-    let mut h: u64 = 0;
-    let mut i = 0;
-    while i < bytes.len() {
-        h = (h * 16777619 + wide(bytes[i]) + 1) % 4294967291;
-        i += 1;
+// Whether the next characters are the digits of these bytes. All of them are read, also where one differs.
+fn are_next(input: &mut impl Read, bytes: &[u8]) -> bool {
+    let mut same = true;
+    for b in bytes {
+        let mut two = [0u8; 2];
+        let _ = read_full(input, &mut two);
+        same &= is_byte(two[0], two[1], *b);
     }
-    h
-}
-
-// Whether the next eight characters are a number's digits.
-fn number_is(input: &mut impl Read, n: u64) -> bool {
-    let a = next_is(input, (n / 16777216 % 256) as u8);
-    let b = next_is(input, (n / 65536 % 256) as u8);
-    let c = next_is(input, (n / 256 % 256) as u8);
-    let d = next_is(input, (n % 256) as u8);
-    a && b && c && d
-}
-
-// Whether the next two characters are a byte's digits.
-fn next_is(input: &mut impl Read, b: u8) -> bool {
-    let mut two = [0u8; 2];
-    let _ = read_full(input, &mut two);
-    two[0] == hex(b / 16) && two[1] == hex(b % 16)
-}
-
-// The digit of a number below 16.
-fn hex(n: u8) -> u8
-    requires { n < 16 }
-{
-    if n < 10 { b'0' + n } else { b'a' + (n - 10) }
-}
-
-// Whether all was well, and the line ends here.
-fn end_of_line(input: &mut impl Read, well: bool) -> bool {
-    let mut one = [0u8; 1];
-    let _ = read_full(input, &mut one);
-    well && one[0] == b'\n'
-}
-
-// A byte as a wider number.
-fn wide(b: u8) -> u64
-    ensures { result < 256 }
-{
-    b as u64
+    same
 }
