@@ -19,8 +19,7 @@ use Rattle.parser.specs.Counts.{counted}
 use Rattle.parser.specs.Written.{text_after, records_after, length_characters}
 use Rattle.parser.specs.Answers.{Accepted, accepted, refused}
 use Rattle.standard.specs.Read.{read_as, Read, refuse_to, characters, records_from, written, labelled}
-use Rattle.reader.specs.declared.Outcome.{Outcome}
-use Rattle.reader.specs.Answers.{read_of}
+use Rattle.reader.specs.Answers.{Outcome, read_of}
 use Rattle.reader.specs.Labels.{label_of}
 use Rattle.segments.specs.Records.{parts_of, parts_length}
 use Rattle.reader.specs.Numbers.{Rest, parts_after, rest_after}

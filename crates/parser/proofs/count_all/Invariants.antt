@@ -11,7 +11,7 @@ use Rattle.parser.proofs.count_all.Given as goal
 
 abbrev pub invariant-loop-kind : goal.invariant-loop-kind
 invariant-loop-kind l =
-    (counted (parse l.ver.0 l.buf) ≡ plus l.records l.text (counted (parse_from l.ver.0 (unpack l.buf) (suc (length (unpack l.buf)) - l.records) l.at)))
+    (counted (parse l.ver.value l.buf) ≡ plus l.records l.text (counted (parse_from l.ver.value (unpack l.buf) (suc (length (unpack l.buf)) - l.records) l.at)))
     × (l.at ≤ 8 * length l.buf) × (l.records ≤ l.at) × (l.text ≤ l.records * 65536)
 
 abbrev pub decreases-loop-kind : goal.decreases-loop-kind
