@@ -1,7 +1,7 @@
 // Bits in a lent buffer of bytes, the highest bit of the first byte first.
 #![tactic(auto)]
 
-ghost use Rattle.std.specs.Prelude.{◌≡◌, ◌+◌, ◌-◌, ◌*◌, ◌%◌, ◌^◌, ◌≤◌, ◌<◌, min, length, get_or};
+ghost use Rattle.std.specs.Prelude.{◌≡◌, ◌+◌, ◌-◌, ◌*◌, ◌%◌, ◌^◌, ◌≤◌, ◌<◌, length, get_or};
 ghost use Rattle.standard.specs.Bits.{bits, unpack};
 ghost use Rattle.bits.specs.Fields.{field};
 ghost use Rattle.bits.specs.Appended.{Free, Appended};
@@ -15,6 +15,7 @@ pub fn read_bit(buf: &[u8], i: usize) -> u8
 }
 
 // Stores the w low bits of v at bit i: all in one byte, where zero bits stand from i on.
+#[tactic(auto, using(crate::specs::Pieces::inside))]
 fn put_bits(buf: &mut [u8], i: usize, v: u8, w: usize)
     requires { (0 < w) × (i % 8 + w ≤ 8) × (v < 2 ^ w) × Free buf.old i (bits w v) }
     ensures { Appended buf.old buf.new i (i + w) (bits w v) }
@@ -25,6 +26,7 @@ fn put_bits(buf: &mut [u8], i: usize, v: u8, w: usize)
 
 // Appends the given number of low-order bits of the given value at bit at, from which on zero bits stand,
 // and returns the bit after them. As many bits as a byte has room for go in at a time.
+#[tactic(auto, using(crate::specs::Appended::progress_start, crate::specs::Pieces::power_some, crate::specs::Pieces::piece_byte))]
 pub fn append_bits(buf: &mut [u8], at: usize, val: u32, len: u8) -> usize
     requires { (len ≤ 32) × Free buf.old at (bits len val) }
     ensures { Appended buf.old buf.new at result (bits len val) }
