@@ -2,7 +2,7 @@
 -- of the products by its two halves. Assumes nothing.
 use Rattle.std.specs.Prelude.{◌≡◌, refl, Bool, List, [], ◌∷◌, ◌++◌, ℕ, zero, suc, ◌+◌, ◌-◌, ◌*◌, ◌/◌, ◌%◌, ◌^◌, ◌≤◌, ◌<◌, eqb, set, take}
 use Rattle.std.proofs.Math.Path.{sym, ap}
-use Rattle.std.proofs.Common.{ap₂, ◌∙◌, subst, zero-mul, pow-suc, eqb→eq, lit<, append-nil, length-append, length-drop, ext_get_or, get_or-take, length-take-le, take_all, take_at, drop_at, take-suc, take-suc-set}
+use Rattle.std.proofs.Common.{ap₂, ◌∙◌, subst, zero-mul, pow-suc, eqb→eq, lit<, length-append, length-drop, ext_get_or, get_or-take, length-take-le, take_all, take_at, drop_at, take-suc, take-suc-set}
 use native.Mathlib.Omega.{arith}
 use Rattle.std.proofs.Math.Arith.{digits_div, digits_mod}
 use Rattle.std.specs.Int.Bits.{bit_xor, xor_shifted}
@@ -77,23 +77,9 @@ unfolding wide
 length_wide p h = length-append p (zeros (32 - length p)) ∙ omega (arith, length-replicate {A = ℕ} (32 - length p) 0)
 
 -- as the code has it: p written over the start of 32 zeros
-pub wide_written : (p o : List ℕ) → o ≡ p → length p ≤ 32 → o ++ drop (length p - 0) (zeros 32) ≡ wide p
+pub wide_written : (p o : List ℕ) → o ≡ p → length p ≤ 32 → o ++ drop (length p) (zeros 32) ≡ wide p
 unfolding wide
-wide_written p o e few =
-    let z : length p - 0 ≡ length p = omega arith in
-    ap₂ (λ (a b : List ℕ). a ++ b) e (ap (λ (k : ℕ). drop k (zeros 32)) z ∙ drop_zeros (length p) 32 few)
-
-wide_full : (p : List ℕ) → length p ≡ 32 → wide p ≡ p
-unfolding wide
-wide_full p h =
-    let z : 32 - length p ≡ 0 = omega arith in
-    ap (λ (k : ℕ). p ++ zeros k) z ∙ append-nil p
-
--- a copy of 32 coefficients from some place on
-pub wide_part : (r h : List ℕ) (at : ℕ) → at + 32 ≤ length r → h ≡ wide (take (at + 32 - at) (drop at r)) → h ≡ take 32 (drop at r)
-wide_part r h at b e =
-    let z : at + 32 - at ≡ 32 = omega arith in
-    e ∙ ap (λ (k : ℕ). wide (take k (drop at r))) z ∙ wide_full (take 32 (drop at r)) (length-take-le 32 (drop at r) (omega (arith, length-drop at r)))
+wide_written p o e few = ap₂ (λ (a b : List ℕ). a ++ b) e (drop_zeros (length p) 32 few)
 
 -- c times that, coefficient by coefficient
 unfoldable pub padded : ℕ → List ℕ → List ℕ

@@ -4,7 +4,7 @@
 ghost use Rattle.std.specs.Prelude.{ℕ, ◌≡◌, ◌+◌, ◌*◌, ◌<◌, ◌≤◌, length, get_or, take, drop};
 ghost use Rattle.standard.specs.Field.{double as double_of, times, scale, remainder, divisor as divisor_of};
 ghost use Rattle.field.specs.Generator.{times_root};
-ghost use Rattle.field.specs.Multiples.{multiples_of, wide, padded, Tables, step_in};
+ghost use Rattle.field.specs.Multiples.{multiples_of, Tables, step_in};
 
 // Puts into `out` the Reed-Solomon generator polynomial whose degree is the length of `out`,
 // the coefficients from highest to lowest power, without the leading one, which is always 1.
@@ -63,7 +63,11 @@ pub fn multiples(divisor: &[u8], c: u8) -> [u8; 512]
     requires { length divisor.now ≤ 32 }
     ensures { result ≡ multiples_of (scale c divisor.now) }
 {
-    let base = scaled(divisor, c);
+    let mut base: [u8; 32] = [0; 32];
+    base[..divisor.len()].copy_from_slice(divisor);
+    for x in base.iter_mut() {
+        *x = reed_solomon_multiply(*x, c);
+    }
     let mut rows: [u8; 512] = [0; 512];
     for n in 1usize..16 {
         next_row(&mut rows, &base, n);
@@ -71,40 +75,20 @@ pub fn multiples(divisor: &[u8], c: u8) -> [u8; 512]
     rows
 }
 
-// Makes row n of row n / 2: twice that, and the polynomial once more where n is odd.
+// Makes row n of a copy of row n / 2: twice that, and the polynomial once more where n is odd.
+// Of a copy, many coefficients of another row can be made at a time.
 fn next_row(rows: &mut [u8; 512], base: &[u8; 32], n: usize)
     requires number { (0 < n) × (n < 16) }
     requires rows { take (n * 32) rows.old ≡ take (n * 32) (multiples_of base.now) }
     ensures { take ((n + 1) * 32) rows.new ≡ take ((n + 1) * 32) (multiples_of base.now) }
 {
     let at = n / 2 * 32;
-    let half = widened(&rows[at..at + 32]);
+    let mut half: [u8; 32] = [0; 32];
+    half.copy_from_slice(&rows[at..at + 32]);
     let odd = (n % 2) as u8;
     for j in 0usize..32 {
         rows[n * 32 + j] = double(half[j]) ^ odd * base[j];
     }
-}
-
-// The coefficients, and zeros after them, in a row of their own: of a copy, many coefficients of another row can be made at a time.
-fn widened(coefficients: &[u8]) -> [u8; 32]
-    requires { length coefficients.now ≤ 32 }
-    ensures { result ≡ wide coefficients.now }
-{
-    let mut row: [u8; 32] = [0; 32];
-    row[0..coefficients.len()].copy_from_slice(coefficients);
-    row
-}
-
-// The divisor times c, with zeros after its coefficients. The loop has a fixed length, so that many are made at a time.
-fn scaled(divisor: &[u8], c: u8) -> [u8; 32]
-    requires { length divisor.now ≤ 32 }
-    ensures { result ≡ padded c divisor.now }
-{
-    let mut row = widened(divisor);
-    for x in row.iter_mut() {
-        *x = reed_solomon_multiply(*x, c);
-    }
-    row
 }
 
 // Puts into `out` the Reed-Solomon error correction codewords of the given data and divisor polynomials.
@@ -117,7 +101,7 @@ pub fn reed_solomon_compute_remainder(data: &[u8], divisor: &Divisor, out: &mut 
     for b in data {
         divide_step(&mut rest, &divisor.low, &divisor.high, *b);
     }
-    out.copy_from_slice(&rest[0..degree]);
+    out.copy_from_slice(&rest[..degree]);
 }
 
 // One step of polynomial division: takes in the coefficient b. The product of the divisor by a factor

@@ -1,11 +1,11 @@
 -- `field::next_row` meets its contract.
 -- Assumes nothing.
-use Prim.Native.Nat.{ℕ, ◌+◌, ◌*◌, ◌/◌}
-use mathlib.Core.Path.{◌≡◌, ◌∙◌, subst}
+use Prim.Native.Nat.{ℕ, ◌+◌, ◌-◌, ◌*◌, ◌/◌}
+use mathlib.Core.Path.{◌≡◌, ap, ◌∙◌, subst}
 use native.Mathlib.Omega.{arith}
 use Rattle.std.proofs.Common.{rules}
-use lib.ListN.{take}
-use Rattle.field.specs.Multiples.{multiples_of, row_turn, wide_part}
+use lib.ListN.{take, drop}
+use Rattle.field.specs.Multiples.{multiples_of, row_turn}
 use Rattle.field.proofs.next_row.Goals as goal
 
 pub loop-j-init : goal.loop-j-init
@@ -19,9 +19,11 @@ loop-j-preserved c =
     let a = c.args in
     let j = c.loop-j.j in
     let o = c.loop-j.rows in
-    let h = c.widened-half in
+    let at = a.n / 2 * 32 in
+    let e : at + 32 - at ≡ 32 = omega arith in
+    let h = c.copy_from_slice in
     let d = c.double in
-    row_turn a.base.now a.rows.now o h.result a.n j d.result (omega arith) (omega arith) c.requires.rows (wide_part a.rows.now h.result (a.n / 2 * 32) (omega arith) h.ensures) (search rules) c.loop-j.invariant (omega arith) d.ensures
+    row_turn a.base.now a.rows.now o h.new.self a.n j d.result (omega arith) (omega arith) c.requires.rows (h.ensures.after ∙ ap (λ (k : ℕ). take k (drop at a.rows.now)) e) (search rules) c.loop-j.invariant (omega arith) d.ensures
 
 pub returns : goal.returns
 returns c =

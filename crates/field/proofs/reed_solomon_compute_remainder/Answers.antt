@@ -25,7 +25,6 @@ pub returns : goal.returns
 returns c =
     let g = c.args.divisor.now.coefficients.now in
     let p = c.args.«data».now in
-    let e : length g - 0 ≡ length g = omega arith in
-    c.copy_from_slice.ensures.after ∙ ap (λ (n : ℕ). take n c.loop-b.rest) e
+    c.copy_from_slice.ensures.after
     ∙ alike_part c.loop-b.rest (remainder g (take c.loop-b.b-index p)) (length g) c.loop-b.invariant (length_remainder g (take c.loop-b.b-index p)) (omega arith)
     ∙ ap (remainder g) (take_all c.loop-b.b-index p (omega arith))
