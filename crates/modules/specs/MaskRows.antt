@@ -131,33 +131,33 @@ again_next r h x v e low b =
     let six : (x - 6) % 6 ≡ x % 6 = omega arith in
     each_reached (again r) r x (x - 6) h e (omega arith) (omega arith) ∙ ap (λ (n : ℕ). get_or r n 0) six
 
-pub row_done : (m y : ℕ) (g h i : List ℕ) → h ≡ each_done 6 (on_row m y) g → 6 ≤ length g → i ≡ each (again h) h → i ≡ each (on_row m y) g
+pub row_done : (m y n : ℕ) (g h i : List ℕ) → h ≡ each_done n (on_row m y) g → 6 ≤ n → 6 ≤ length g → i ≡ each (again h) h → i ≡ each (on_row m y) g
 unfolding each
-row_done m y g h i e room is =
+row_done m y n g h i e six room is =
     is ∙ is_tabulate 0 (tabulate (length h) (λ k. again h k (get_or h k 0))) (length g) _ (length_tabulate (length h) _ ∙ same)
-    (λ k b. get_d_tabulate (length h) _ k 0 (omega (arith, same)) ∙ each_reached (on_row m y) g 6 (k % 6) h e (six k) (omega (arith, six k)) ∙ ap one (inverts_six m k y))
+    (λ k b. get_d_tabulate (length h) _ k 0 (omega (arith, same)) ∙ each_reached (on_row m y) g n (k % 6) h e (omega (arith, few k)) (omega (arith, few k)) ∙ ap one (inverts_six m k y))
   where
     same : length h ≡ length g
-    same = ap length e ∙ each_length (on_row m y) g 6
+    same = ap length e ∙ each_length (on_row m y) g n
 
-    six : (k : ℕ) → k % 6 < 6
-    six k = omega arith
+    few : (k : ℕ) → k % 6 < 6
+    few k = omega arith
 
 -- ---- twelve rows, one after the other
 
 pub rows_start : (m size : ℕ) (g : List ℕ) → g ≡ each_done (0 * size) (in_row m size) g
 rows_start m size g = each_start (in_row m size) g ∙ ap (λ (n : ℕ). each_done n (in_row m size) g) (sym (zero-mul size))
 
-pub row_room : (size y n : ℕ) → y < 12 → n ≡ 12 * size → y * size + size ≤ n
+row_room : (size y n : ℕ) → y < 12 → n ≡ 12 * size → y * size + size ≤ n
 row_room size y n h e =
     let w : (y + 1) * size ≤ 12 * size = mul-le-mul_right size (omega arith) in
     omega (arith, add-mul y 1 size)
 
 pub rows_next : (m size y : ℕ) (g h i : List ℕ) → h ≡ each_done (y * size) (in_row m size) g → length h ≡ 12 * size → y < 12
-    → i ≡ each (on_row m y) (take (y * size + size - y * size) (drop (y * size) h))
-    → take (y * size) h ++ (i ++ drop (y * size + size - y * size) (drop (y * size) h)) ≡ each_done ((y + 1) * size) (in_row m size) g
+    → i ≡ each (on_row m y) (take ((y + 1) * size - y * size) (drop (y * size) h))
+    → take (y * size) h ++ (i ++ drop ((y + 1) * size - y * size) (drop (y * size) h)) ≡ each_done ((y + 1) * size) (in_row m size) g
 rows_next m size y g h i e long less is =
-    let d : y * size + size - y * size ≡ size = omega arith in
+    let d : (y + 1) * size - y * size ≡ size = omega (arith, add-mul y 1 size) in
     let same : length h ≡ length g = ap length e ∙ each_length (in_row m size) g (y * size) in
     let next : y * size + size ≡ (y + 1) * size = omega (arith, add-mul y 1 size) in
     rw d
@@ -178,27 +178,32 @@ under r k v = inverted (get_or r (k % length r) 0) v
 pub bands_start : (r : List ℕ) → 0 < length r → 0 % length r ≡ 0
 bands_start r h = mod-eq_of_lt h
 
-pub bands_next : (r g h i : List ℕ) (at n : ℕ) → h ≡ each_done at (under r) g → length h ≡ length g → at < length h → (at < length h → at % length r ≡ 0)
-    → n ≡ min (length h - at) (length r) → i ≡ each (λ k v. inverted (get_or r k 0) v) (take (at + n - at) (drop at h))
-    → take at h ++ (i ++ drop (at + n - at) (drop at h)) ≡ each_done (at + n) (under r) g
-bands_next r g h i at n e long less turn is_n is =
-    let d : at + n - at ≡ n = omega arith in
-    let whole : at % length r ≡ 0 = turn less in
-    rw d
-    (each_part (under r) (λ k v. inverted (get_or r k 0) v) g h i at n e (omega arith)
-    (λ j v l. ap (λ (k : ℕ). inverted (get_or r k 0) v) (place j (omega arith))) (rw d at is))
+pub bands_next : (r g h i : List ℕ) (at n m : ℕ) → n ≡ m → h ≡ each_done at (under r) g → at < length h → at % length r ≡ 0
+    → n ≡ min (length h) (at + length r) → i ≡ each (λ k v. inverted (get_or r k 0) v) (take (n - at) (drop at h))
+    → take at h ++ (i ++ drop (n - at) (drop at h)) ≡ each_done m (under r) g
+bands_next r g h i at n m to e less whole is_n is =
+    let d : at + (n - at) ≡ m = omega arith in
+    let same : length h ≡ length g = ap length e ∙ each_length (under r) g at in
+    each_part (under r) (λ k v. inverted (get_or r k 0) v) g h i at (n - at) e (omega (arith, same))
+    (λ j v l. ap (λ (k : ℕ). inverted (get_or r k 0) v) (place j (omega arith))) is
+    ∙ ap (λ (k : ℕ). each_done k (under r) g) d
   where
     place : (j : ℕ) → j < length r → j ≡ (at + j) % length r
     place j l =
         let split : at / length r * length r + at % length r ≡ at = div-add-mod' at (length r) in
-        let here : at / length r * length r + j ≡ at + j = omega (arith, turn less) in
+        let here : at / length r * length r + j ≡ at + j = omega arith in
         sym (digits_mod (at / length r) l) ∙ ap (λ (k : ℕ). k % length r) here
 
-pub bands_turn : (r h i : List ℕ) (at n : ℕ) → 0 < length r → length i ≡ length h → at < length h → (at < length h → at % length r ≡ 0)
-    → n ≡ min (length h - at) (length r) → at + n < length i → (at + n) % length r ≡ 0
-bands_turn r h i at n pos same less turn is_n more =
-    let full : n ≡ length r = omega arith in
-    ap (λ (k : ℕ). (at + k) % length r) full ∙ add-mod_right at (length r) ∙ turn less
+pub bands_last : (r g h i : List ℕ) (at n : ℕ) → n ≡ length h → h ≡ each_done at (under r) g → at < length h → at % length r ≡ 0
+    → n ≡ min (length h) (at + length r) → i ≡ each (λ k v. inverted (get_or r k 0) v) (take (n - at) (drop at h))
+    → take at h ++ (i ++ drop (n - at) (drop at h)) ≡ each (under r) g
+bands_last r g h i at n to e less whole is_n is =
+    let all : take at h ++ (i ++ drop (n - at) (drop at h)) ≡ each_done n (under r) g = bands_next r g h i at n n refl e less whole is_n is in
+    let same : length h ≡ length g = ap length e ∙ each_length (under r) g at in
+    each_end (under r) g n (length g) _ all (ap length all ∙ each_length (under r) g n) (omega (arith, same))
+
+pub bands_turn : (r : List ℕ) (at : ℕ) → at % length r ≡ 0 → (at + length r) % length r ≡ 0
+bands_turn r at whole = add-mod_right at (length r) ∙ whole
 
 -- ---- and that is the mask
 

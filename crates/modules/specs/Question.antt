@@ -1,14 +1,13 @@
 -- Laws of the question for one module: which sides are valid, when the answer is light, and what a signed coordinate is.
 -- Assumes nothing.
-use Rattle.std.specs.Prelude.{ℕ, ◌+◌, ◌*◌, ◌%◌, ◌≤◌, ◌<◌, Bool, not, ◌&&◌, List, ◌≡◌, T, leb, ltb, eqb, ℤ, pos, negsuc, nat_abs, length, get_or}
-use Rattle.std.proofs.Math.Bool.{true, false, and-false}
-use Rattle.std.proofs.Common.{true≢false, sym, ap₂, ◌∙◌, mul-le-mul, arith, Fits, SFits, to_z, of_z}
+use Rattle.std.specs.Prelude.{ℕ, ◌+◌, ◌*◌, ◌%◌, ◌≤◌, ◌<◌, Bool, ◌&&◌, List, ◌≡◌, leb, eqb, ℤ, pos, negsuc, length}
+use Rattle.std.proofs.Math.Bool.{true, false}
+use Rattle.std.proofs.Common.{sym, ◌∙◌, mul-le-mul, arith, SFits, to_z, of_z}
 use Rattle.std.proofs.Math.Path.{refl}
 use Rattle.std.proofs.Math.Arith.{digits_lt}
-use Rattle.std.specs.Int.Signed.{lt_z, non_neg, pos-nat_abs}
-use Rattle.std.specs.Int.{w32, w64}
+use Rattle.std.specs.Int.{w32, FitsUnsignedBits}
 use Rattle.std.proofs.lemmas.Int.{to_z-of_z}
-use borrow.Author.Tests.{lt-ltb, le-ltb, le-leb, lt-leb, eq-eqb, eqb-true, ltb-true, leb-true}
+use borrow.Author.Tests.{le-leb, eq-eqb, eqb-true, leb-true}
 use Rattle.standard.specs.Sizes.{side}
 use Rattle.standard.specs.Module.{version_of, valid_side, dark}
 use Rattle.laws.specs.Tests.{same_test, and_first, and_second}
@@ -46,71 +45,32 @@ valid_rest s low high =
     rw (eq-eqb s (side (version_of s)) (omega arith), le-leb 1 (version_of s) (omega arith), le-leb (version_of s) 40 (omega arith)))
     (λ e. let r = valid_range s e in eq-eqb (s % 4) 1 (omega arith))
 
--- ---- the answer, at coordinates that are not negative
-
-module _ (s : ℕ) (g : List ℕ) (x y : ℕ) where
-  pub dark_invalid : (b : Bool) → b ≡ valid_side s → not b ≡ true → false ≡ dark s g (pos x) (pos y)
-  unfolding dark
-  dark_invalid true e n = absurd (true≢false (sym n))
-  dark_invalid false e n = rw (← e)
-
-  pub dark_short : length g < s * s → false ≡ dark s g (pos x) (pos y)
-  unfolding dark
-  dark_short h = rw (lt-leb (s * s) (length g) h, and-false (valid_side s))
-
-  pub dark_right : s ≤ x → false ≡ dark s g (pos x) (pos y)
-  unfolding dark
-  dark_right h = rw (le-ltb x s h, and-false (leb (s * s) (length g)), and-false (valid_side s))
-
-  pub dark_below : s ≤ y → false ≡ dark s g (pos x) (pos y)
-  unfolding dark
-  dark_below h = rw (le-ltb y s h, and-false (ltb x s), and-false (leb (s * s) (length g)), and-false (valid_side s))
-
-  pub dark_inside : (b : Bool) → b ≡ valid_side s → not b ≡ false → s * s ≤ length g → x < s → y < s → eqb (get_or g (y * s + x) 0) 1 ≡ dark s g (pos x) (pos y)
-  unfolding dark
-  dark_inside false e n long hx hy = absurd (true≢false n)
-  dark_inside true e n long hx hy = rw (← e, le-leb (s * s) (length g) long, lt-ltb x s hx, lt-ltb y s hy)
-
-  -- the place lies in the grid
-  pub place_lt : s * s ≤ length g → x < s → y < s → y * s + x < length g
-  place_lt long hx hy = omega (arith, digits_lt hy hx)
+-- the place lies in the grid
+pub place_lt : (s : ℕ) (g : List ℕ) (x y : ℕ) → s * s ≤ length g → x < s → y < s → y * s + x < length g
+place_lt s g x y long hx hy = omega (arith, digits_lt hy hx)
 
 -- a valid side is small
-pub side_small : (s : ℕ) (b : Bool) → b ≡ valid_side s → not b ≡ false → s * s ≤ 31329
-side_small s false e n = absurd (true≢false n)
-side_small s true e n = let r = valid_range s (sym e) in let small : s ≤ 177 = omega arith in mul-le-mul small small
+pub side_small : (s : ℕ) (b : Bool) → b ≡ valid_side s → b ≡ true → s * s ≤ 31329
+side_small s b e t = let r = valid_range s (sym e ∙ t) in let small : s ≤ 177 = omega arith in mul-le-mul small small
 
 -- ---- signed coordinates
 
-module _ (s : ℕ) (g : List ℕ) where
-  left : (x y : ℤ) → lt_z x (pos 0) ≡ true → false ≡ dark s g x y
-  unfolding dark
-  left (pos n) y e = absurd (omega (arith, ltb-true n 0 e))
-  left (negsuc n) y e = refl
+-- a coordinate that is no usize is negative
+negative : (z : ℤ) → SFits w32 z → (FitsUnsignedBits 64 (to_z w32 (of_z w32 z)) → ⊥) → (n : ℕ) × (z ≡ negsuc n)
+negative z f not_fits = go z f (rw (to_z-of_z w32 z f) at not_fits)
+  where
+    go : (z : ℤ) → SFits w32 z → (FitsUnsignedBits 64 z → ⊥) → (n : ℕ) × (z ≡ negsuc n)
+    go (pos n) f h = absurd (h (omega (arith, f.sfits)))
+    go (negsuc n) f h = (n, refl)
 
-  up : (x y : ℤ) → lt_z y (pos 0) ≡ true → false ≡ dark s g x y
-  unfolding dark
-  up (pos n) (pos m) e = absurd (omega (arith, ltb-true m 0 e))
-  up (pos n) (negsuc m) e = refl
-  up (negsuc n) y e = refl
+pub left_of : (s : ℕ) (g : List ℕ) (x y : ℤ) → SFits w32 x → (FitsUnsignedBits 64 (to_z w32 (of_z w32 x)) → ⊥) → false ≡ dark s g x y
+unfolding dark
+left_of s g x y f h = let e = (negative x f h).1 in rw e
 
-  pub left_of : (x y : ℤ) → lt_z (to_z w32 (of_z w32 x)) (pos 0) ≡ true → SFits w32 x → false ≡ dark s g x y
-  left_of x y e f = left x y (rw (to_z-of_z w32 x f) at e)
-
-  pub above : (x y : ℤ) → lt_z (to_z w32 (of_z w32 y)) (pos 0) ≡ true → SFits w32 y → false ≡ dark s g x y
-  above x y e f = up x y (rw (to_z-of_z w32 y f) at e)
-
-fits_of : (z : ℤ) → lt_z z (pos 0) ≡ false → SFits w32 z → T (non_neg z) × Fits w64 (nat_abs z)
-fits_of (pos n) e f = (tt, record { fits = omega (arith, f.sfits) })
-fits_of (negsuc n) e f = absurd (true≢false e)
-
-pub not_negative : (z : ℤ) → lt_z (to_z w32 (of_z w32 z)) (pos 0) ≡ false → SFits w32 z → T (non_neg (to_z w32 (of_z w32 z))) × Fits w64 (nat_abs (to_z w32 (of_z w32 z)))
-not_negative z e f = rw (to_z-of_z w32 z f) (fits_of z (rw (to_z-of_z w32 z f) at e) f)
-
--- the number of a coordinate that is not negative
-number : (z : ℤ) → lt_z (to_z w32 (of_z w32 z)) (pos 0) ≡ false → SFits w32 z → pos (nat_abs (to_z w32 (of_z w32 z))) ≡ z
-number z e f = pos-nat_abs (to_z w32 (of_z w32 z)) (not_negative z e f).0 ∙ to_z-of_z w32 z f
-
-pub dark_is : (s : ℕ) (g : List ℕ) (x y : ℤ) (b : Bool) → b ≡ dark s g (pos (nat_abs (to_z w32 (of_z w32 x)))) (pos (nat_abs (to_z w32 (of_z w32 y))))
-    → lt_z (to_z w32 (of_z w32 x)) (pos 0) ≡ false → lt_z (to_z w32 (of_z w32 y)) (pos 0) ≡ false → SFits w32 x → SFits w32 y → b ≡ dark s g x y
-dark_is s g x y b e nx ny fx fy = e ∙ ap₂ (dark s g) (number x nx fx) (number y ny fy)
+pub above : (s : ℕ) (g : List ℕ) (x y : ℤ) → SFits w32 y → (FitsUnsignedBits 64 (to_z w32 (of_z w32 y)) → ⊥) → false ≡ dark s g x y
+unfolding dark
+above s g x y f h = let e = (negative y f h).1 in rw e (go x (negative y f h).0)
+  where
+    go : (x : ℤ) (n : ℕ) → false ≡ dark s g x (negsuc n)
+    go (pos m) n = refl
+    go (negsuc m) n = refl

@@ -6,6 +6,7 @@ use Rattle.std.proofs.Math.Bool.{and-false}
 use Rattle.std.proofs.Math.Nat.{div-div-eq-div-mul}
 use Rattle.std.proofs.Math.Arith.{digits_div, digits_mod}
 use borrow.Author.Tests.{lt-ltb, le-ltb}
+use Rattle.std.specs.Borrow.{MutBor}
 use Rattle.standard.specs.Path.{right, height, cell}
 
 -- how many cells the path has
@@ -53,6 +54,10 @@ drawn side cs g = list_of (walk side (lay_at cs) 0 (path_length side) (laid g 0)
 -- what is read into the bytes o
 abbrev pub collected : ℕ → List ℕ → List ℕ → List ℕ
 collected side g o = list_of (walk side (read_at g) 0 (path_length side) (laid o 0))
+
+-- what a visit leaves and answers is what f makes of the bytes and the number of bits
+abbrev pub Steps : (MutBor (List ℕ) → ℕ → ℕ → ℕ → MutBor (List ℕ) → Type 0) → (ℕ → Laid → Laid) → Type 0
+Steps post f = (b : MutBor (List ℕ)) (at i r : ℕ) (c : MutBor (List ℕ)) → post b at i r c → laid c.now r ≡ f at (laid b.now i)
 
 -- ---- laws
 

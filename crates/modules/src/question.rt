@@ -8,43 +8,24 @@ ghost use Rattle.standard.specs.Module.{valid_side, dark};
 pub fn get_module(grid: &[u8], size: usize, x: i32, y: i32) -> bool
     ensures { result ≡ dark size grid.now x y }
 {
-    if x < 0 {
-        return false;
+    match (usize::try_from(x), usize::try_from(y)) {
+        (Ok(x), Ok(y)) => dark_at(grid, size, x, y),
+        _ => false,
     }
-    if y < 0 {
-        return false;
-    }
-    dark_at(grid, size, x as usize, y as usize)
 }
 
 // Whether the size is that of a version.
+#[tactic(auto, unfolding(standard::specs::Module::valid_side))]
 fn valid_size(size: usize) -> bool
     ensures { result ≡ valid_side size }
 {
-    if size < 21 {
-        return false;
-    }
-    if size > 177 {
-        return false;
-    }
-    size % 4 == 1
+    21 <= size && size <= 177 && size % 4 == 1
 }
 
 // The same at coordinates that are not negative.
+#[tactic(auto, unfolding(standard::specs::Module::dark))]
 fn dark_at(grid: &[u8], size: usize, x: usize, y: usize) -> bool
     ensures { result ≡ dark size grid.now (pos x) (pos y) }
 {
-    if !valid_size(size) {
-        return false;
-    }
-    if grid.len() < size * size {
-        return false;
-    }
-    if x >= size {
-        return false;
-    }
-    if y >= size {
-        return false;
-    }
-    grid[y * size + x] == 1
+    valid_size(size) && size * size <= grid.len() && x < size && y < size && grid[y * size + x] == 1
 }

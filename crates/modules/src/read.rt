@@ -1,9 +1,9 @@
 // The way back: level and mask from the first copy of the format bits, and codewords along the zigzag, without the mask.
-ghost use Rattle.std.specs.Prelude.{◌≡◌, cond, ◌+◌, ◌-◌, ◌*◌, ◌/◌, ◌<◌, ◌≤◌, ltb, length};
+ghost use Rattle.std.specs.Prelude.{◌≡◌, ◌*◌, ◌<◌, ◌≤◌, length};
 ghost use Rattle.standard.specs.Sizes.{side};
 ghost use Rattle.laws.specs.Grid.{Square};
 ghost use Rattle.types.specs.Numbers.{level_of};
-ghost use Rattle.modules.specs.Zigzag.{Laid, Laid.laid, read_at, walk, collected};
+ghost use Rattle.modules.specs.Zigzag.{Laid, Laid.laid, read_at};
 ghost use Rattle.standard.specs.Format.{level_bits};
 ghost use Rattle.modules.specs.FormatBack.{format_bit, format_data, read_level, read_mask};
 ghost use Rattle.modules.specs.Back.{copied, read_grid, read_words};
@@ -60,79 +60,39 @@ pub fn read_level(grid: &[u8], ver: Version) -> QrCodeEcc
     level_of(bits / 8)
 }
 
-// Reads the mask's number, which is in the range [0, 7].
-pub fn read_mask(grid: &[u8], ver: Version) -> u8
+// Reads the mask.
+pub fn read_mask(grid: &[u8], ver: Version) -> Mask
     requires square { Square grid.now (side ver.value) }
-    ensures { (result ≡ read_mask (side ver.value) grid.now) × (result ≤ 7) }
+    ensures { result.value ≡ read_mask (side ver.value) grid.now }
 {
     let size = patterns::size_of(ver);
-    format_data(grid, size) % 8
+    types::mask_at(format_data(grid, size) % 8)
 }
 
 /*---- Codewords ----*/
 
-// Reads the module (x, y) as bit i of out, if it is no function module and out has such a bit. Answers the number of the next bit.
-fn read_bit(grid: &[u8], size: usize, out: &mut [u8], x: usize, y: usize, i: usize) -> usize
-    requires square { Square grid.now size }
-    requires x_lt_size { (x < size) × (y < size) × (length out.old ≤ 4096) }
-    ensures { laid out.new result ≡ read_at grid.now (y * size + x) (laid out.old i) }
+// Reads the module at a place as bit i of out, if it is no function module and out has such a bit. Answers the number of the next bit.
+#[tactic(auto, unfolding(crate::specs::Zigzag::read_at))]
+fn read_bit(grid: &[u8], out: &mut [u8], at: usize, i: usize) -> usize
+    requires { (at < length grid.now) × (length out.old ≤ 4096) }
+    ensures { laid out.new result ≡ read_at grid.now at (laid out.old i) }
 {
-    let at = patterns::place(size, x, y);
     let v = grid[at];
-    if v >= 2 {
-        return i;
-    }
-    if i >= out.len() * 8 {
-        return i;
-    }
-    let b = i / 8;
-    out[b] = out[b] % 128 * 2 + v;
-    i + 1
-}
-
-// The two modules of one row of column pair p.
-fn read_row(grid: &[u8], size: usize, out: &mut [u8], p: usize, vert: usize, i: usize) -> usize
-    requires square { Square grid.now size }
-    requires p_bound { (p < (size - 1) / 2) × (vert < size) × (length out.old ≤ 4096) }
-    ensures { laid out.new result ≡ walk size (read_at grid.now) ((p * size + vert) * 2) 2 (laid out.old i) }
-{
-    let x = super::right_column(size, p);
-    let y = super::row_of(size, p, vert);
-    let mut n = i;
-    for j in 0..2 {
-        n = read_bit(grid, size, out, x - j, y, n);
-    }
-    n
-}
-
-// Does the zigzag scan, and reads data modules as the bits of out.
-fn read_bits(grid: &[u8], size: usize, out: &mut [u8])
-    requires square { Square grid.now size }
-    requires size_nonzero { (0 < size) × (length out.old ≤ 4096) }
-    ensures { out.new ≡ collected size grid.now out.old }
-{
-    let mut i: usize = 0;
-    for p in 0..(size - 1) / 2 {
-        for vert in 0..size {
-            i = read_row(grid, size, out, p, vert, i);
-        }
+    if v < 2 && i < out.len() * 8 {
+        out[i / 8] = out[i / 8] % 128 * 2 + v;
+        i + 1
+    } else {
+        i
     }
 }
 
-// A function module stays, a data module becomes d.
-fn taken(c: u8, d: u8) -> u8
-    ensures { result ≡ cond (ltb c 2) d c }
-{
-    if c < 2 { d } else { c }
-}
-
-// Copies the data modules of grid into work.
+// Copies the data modules of grid into work. A function module of work stays.
 fn copy_data(grid: &[u8], work: &mut [u8])
     requires { length grid.now ≡ length work.old }
     ensures { work.new ≡ copied grid.now work.old }
 {
-    for k in 0..work.len() {
-        work[k] = taken(work[k], grid[k]);
+    for (k, m) in work.iter_mut().enumerate() {
+        *m = if *m < 2 { grid[k] } else { *m };
     }
 }
 
@@ -142,7 +102,7 @@ fn unmask(grid: &[u8], work: &mut [u8], ver: Version, ecl: QrCodeEcc, mask: Mask
     requires square_2 { Square work.old (side ver.value) }
     ensures { work.new ≡ read_grid ver.value (level_of ecl) mask.value grid.now }
 {
-    super::clear(work);
+    work.fill(0);
     patterns::draw_function_patterns(work, ver, ecl, mask);
     copy_data(grid, work);
     super::apply_mask(work, ver, mask);
@@ -165,12 +125,13 @@ pub fn read_codewords(
 {
     unmask(grid, work, ver, ecl, mask);
     let size = patterns::size_of(ver);
-    read_bits(work, size, out);
+    super::zigzag::zigzag(size, out, |out, at, i| read_bit(work, out, at, i));
 }
 
 /*---- Function modules ----*/
 
 // Whether c is the color of the module w of a work grid, if that is a function module.
+#[tactic(auto, unfolding(crate::specs::Same::agree))]
 fn agrees(c: u8, w: u8) -> bool
     ensures { result ≡ agree c w }
 {
@@ -183,8 +144,8 @@ pub fn same_functions(grid: &[u8], work: &[u8]) -> bool
     ensures { result ≡ agree_to (length work.now) grid.now work.now }
 {
     let mut all = true;
-    for k in 0..work.len() {
-        all = all & agrees(grid[k], work[k]);
+    for (c, w) in grid.iter().zip(work) {
+        all &= agrees(*c, *w);
     }
     all
 }

@@ -1,12 +1,13 @@
 // The codewords of a case: pseudo-random, as the list's maker takes them.
-ghost use Rattle.std.specs.Prelude.{◌<◌, ◌≤◌};
+ghost use Rattle.std.specs.Prelude.{◌<◌};
+
+use types::{Mask, QrCodeEcc, Version};
 
 // Where the pseudo-random numbers of a case start.
-pub(crate) fn seed(v: u8, l: usize, m: u8) -> u64
-    requires { l ≤ 3 }
+pub(crate) fn seed(ver: Version, ecl: QrCodeEcc, mask: Mask) -> u64
     ensures { result < 2147483648 }
 {
-    wide(v) * 32 + l as u64 * 8 + wide(m)
+    u64::from(ver.value()) * 32 + ecl.ordinal() as u64 * 8 + u64::from(mask.value())
 }
 
 // Fills in pseudo-random codewords.
@@ -14,17 +15,8 @@ pub(crate) fn fill(words: &mut [u8], seed: u64)
     requires { seed < 2147483648 }
 {
     let mut x = seed;
-    let mut i = 0;
-    while i < words.len() {
+    for word in words.iter_mut() {
         x = (x * 1103515245 + 12345) % 2147483648;
-        words[i] = (x / 65536 % 256) as u8;
-        i += 1;
+        *word = (x / 65536 % 256) as u8;
     }
-}
-
-// A byte as a wider number.
-fn wide(b: u8) -> u64
-    ensures { result < 256 }
-{
-    b as u64
 }

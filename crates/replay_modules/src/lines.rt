@@ -1,50 +1,76 @@
 // The lines of the list, and what their characters mean.
-ghost use Rattle.std.specs.Prelude.{◌≤◌};
+ghost use Rattle.std.specs.Prelude.{◌≤◌, length, IfSome};
 
 use std::io::Read;
 use streams::read_full;
-use types::QrCodeEcc;
+use types::{Mask, QrCodeEcc, Version};
 
-// What reading a line gives: its length, or that the input is at its end.
+// How a line shows a grid: all modules of it, or a digest.
+#[derive(Clone, Copy, PartialEq, Eq)]
+pub(crate) enum Kind {
+    Full,
+    Digest,
+}
+
+// A case: what to draw, and the characters that show it.
 #[derive(Clone, Copy)]
-pub(crate) enum Line {
-    Read(usize),
-    End,
+pub(crate) struct Case<'a> {
+    pub kind: Kind,
+    pub ver: Version,
+    pub ecl: QrCodeEcc,
+    pub mask: Mask,
+    pub want: &'a [u8],
 }
 
-// Reads a line without its end. A line that is too long is read as several.
-pub(crate) fn read_line(input: &mut impl Read, line: &mut [u8; 32768]) -> Line {
-    let mut n: usize = 0;
-    while n < 32768 {
-        let c = next(input);
-        if c == 0 {
-            return Line::End;
-        }
+// Reads a line without its end, and answers its length; none at the end of the input. A line that is too long is read as several.
+pub(crate) fn read_line(input: &mut impl Read, line: &mut [u8]) -> Option<usize>
+    ensures { IfSome result (λ n. n ≤ length line.new) }
+{
+    for (n, place) in line.iter_mut().enumerate() {
+        let c = next(input)?;
         if c == b'\n' {
-            return Line::Read(n);
+            return Some(n);
         }
-        line[n] = c;
-        n += 1;
+        *place = c;
     }
-    Line::Read(n)
+    Some(line.len())
 }
 
-// The next character; 0 at the end of the input.
-fn next(input: &mut impl Read) -> u8 {
+// The next character; none at the end of the input, which a 0 is too.
+fn next(input: &mut impl Read) -> Option<u8> {
     let mut one = [0u8; 1];
     let _ = read_full(input, &mut one);
-    one[0]
+    if one[0] == 0 { None } else { Some(one[0]) }
+}
+
+// The kind of a line that begins with c.
+pub(crate) fn kind_of(c: u8) -> Kind {
+    if c == b'F' { Kind::Full } else { Kind::Digest }
+}
+
+// The case of a line; none where that is too short, or says no version or no mask.
+pub(crate) fn case_of(line: &[u8]) -> Option<Case<'_>> {
+    if line.len() < 9 {
+        return None;
+    }
+    Some(Case {
+        kind: kind_of(line[0]),
+        ver: Version::new(digit(line[2]) * 10 + digit(line[3]))?,
+        ecl: level(line[5]),
+        mask: Mask::new(digit(line[7]))?,
+        want: &line[9..],
+    })
 }
 
 // The value of a digit.
-pub(crate) fn digit(c: u8) -> u8
+fn digit(c: u8) -> u8
     ensures { result ≤ 9 }
 {
     c % 16 % 10
 }
 
 // The level of a digit.
-pub(crate) fn level(c: u8) -> QrCodeEcc {
+fn level(c: u8) -> QrCodeEcc {
     match c {
         b'0' => QrCodeEcc::Low,
         b'1' => QrCodeEcc::Medium,

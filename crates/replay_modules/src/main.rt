@@ -2,16 +2,15 @@
 // a line says, stands in tools/vectors/modules.rs. Level, mask and codewords are also read back, and some modules are asked for.
 #![tactic(auto)]
 
-ghost use Rattle.std.specs.Prelude.{◌<◌, ◌≤◌, length};
+ghost use Rattle.std.specs.Prelude.{◌≤◌, length};
 ghost use Rattle.standard.specs.Sizes.{side};
 ghost use Rattle.laws.specs.Grid.{Square};
 
 mod codewords; // the codewords of a case
 mod lines; // the lines of the list
 
-use lines::Line;
+use lines::{Case, Kind};
 use std::io::Read;
-use types::{Mask, QrCodeEcc, Version};
 
 // How many grids were compared in full and by digests, how many of them differ, how many
 // gave something else back, and how many answered wrong.
@@ -22,6 +21,14 @@ struct Tally {
     differ: u64,
     lost: u64,
     wrong: u64,
+}
+
+// Whether a grid is the same, gave back what was drawn, and answered right.
+#[derive(Clone, Copy)]
+struct Outcome {
+    equal: bool,
+    found: bool,
+    right: bool,
 }
 
 fn main(rt: HostRuntime) {
@@ -49,72 +56,56 @@ fn replay(input: &mut impl Read) -> Tally {
         lost: 0,
         wrong: 0,
     };
-    let mut turns: u64 = 100_000;
     let mut line = [0u8; 32768];
-    while 0 < turns {
-        let l = lines::read_line(input, &mut line);
-        match l {
-            Line::Read(n) => {
-                t = one(t, line, n);
-            }
-            Line::End => {
-                return t;
-            }
+    for _turn in 0..100_000 {
+        match lines::read_line(input, &mut line) {
+            Some(n) => t = counted(t, lines::kind_of(line[0]), outcome_of(&line[..n])),
+            None => return t,
         }
-        turns -= 1;
     }
     t
 }
 
-// One line, which has n characters. One that says no version or no mask differs.
-fn one(t: Tally, line: [u8; 32768], n: usize) -> Tally {
-    if n < 9 {
-        return told_of(t, line[0], false, true, true);
-    }
-    if 32768 < n {
-        return told_of(t, line[0], false, true, true);
-    }
-    let v = Version::new(lines::digit(line[2]) * 10 + lines::digit(line[3]));
-    match v {
-        Some(ver) => masked(
-            t,
-            line[0],
-            ver,
-            lines::level(line[5]),
-            lines::digit(line[7]),
-            &line[9..n],
-        ),
-        None => told_of(t, line[0], false, true, true),
+// The counts after a grid.
+fn counted(t: Tally, kind: Kind, o: Outcome) -> Tally {
+    Tally {
+        full: plus(t.full, kind == Kind::Full),
+        digests: plus(t.digests, kind == Kind::Digest),
+        differ: plus(t.differ, !o.equal),
+        lost: plus(t.lost, !o.found),
+        wrong: plus(t.wrong, !o.right),
     }
 }
 
-// The rest of a line, once its version is known.
-fn masked(t: Tally, kind: u8, ver: Version, ecl: QrCodeEcc, m: u8, want: &[u8]) -> Tally
-{
-    let n = Mask::new(m);
-    match n {
-        Some(mask) => case(t, kind, ver, ecl, mask, want),
-        None => told_of(t, kind, false, true, true),
+// One more, if it counts.
+fn plus(n: u64, counts: bool) -> u64 {
+    n.wrapping_add(u64::from(counts))
+}
+
+// One line. One that says no case differs.
+fn outcome_of(line: &[u8]) -> Outcome {
+    match lines::case_of(line) {
+        Some(case) => tried(&case),
+        None => Outcome {
+            equal: false,
+            found: true,
+            right: true,
+        },
     }
 }
 
 // One case, in buffers of the size that the largest version needs.
-fn case(t: Tally, kind: u8, ver: Version, ecl: QrCodeEcc, mask: Mask, want: &[u8]) -> Tally
-{
-    let size = patterns::size_of(ver);
+#[tactic(auto, using(laws::specs::Grid::area_small, counts::specs::Ranges::words_fit))]
+fn tried(case: &Case<'_>) -> Outcome {
+    let size = patterns::size_of(case.ver);
     let n = size * size;
-    let m = capacity::get_num_raw_data_modules(ver) / 8;
-    let mut grid: [u8; 31329] = [0; 31329];
-    let mut work: [u8; 31329] = [0; 31329];
-    let mut words: [u8; 3706] = [0; 3706];
-    let mut back: [u8; 3706] = [0; 3706];
+    let m = capacity::get_num_raw_data_modules(case.ver) / 8;
+    let mut grid = [0u8; 31329];
+    let mut work = [0u8; 31329];
+    let mut words = [0u8; 3706];
+    let mut back = [0u8; 3706];
     compared(
-        t,
-        kind,
-        ver,
-        ecl,
-        mask,
-        want,
+        case,
         &mut grid[0..n],
         &mut work[0..n],
         &mut words[0..m],
@@ -122,99 +113,43 @@ fn case(t: Tally, kind: u8, ver: Version, ecl: QrCodeEcc, mask: Mask, want: &[u8
     )
 }
 
-// Makes the codewords of a case.
+// Makes the codewords of a case, draws its grid, reads that back, and compares.
 fn compared(
-    t: Tally,
-    kind: u8,
-    ver: Version,
-    ecl: QrCodeEcc,
-    mask: Mask,
-    want: &[u8],
+    case: &Case<'_>,
     grid: &mut [u8],
     work: &mut [u8],
     words: &mut [u8],
     back: &mut [u8],
-) -> Tally
-    requires square { Square grid.old (side ver.value) }
-    requires square_2 { Square work.old (side ver.value) }
+) -> Outcome
+    requires square { Square grid.old (side case.now.ver.value) }
+    requires square_2 { Square work.old (side case.now.ver.value) }
     requires words_len_bound { (length words.old ≤ 4096) × (length back.old ≤ 4096) }
 {
-    codewords::fill(
-        words,
-        codewords::seed(ver.value(), ecl.ordinal(), mask.value()),
-    );
-    drawn(t, kind, ver, ecl, mask, want, grid, work, words, back)
-}
-
-// Draws a grid, reads it back, and compares.
-fn drawn(
-    t: Tally,
-    kind: u8,
-    ver: Version,
-    ecl: QrCodeEcc,
-    mask: Mask,
-    want: &[u8],
-    grid: &mut [u8],
-    work: &mut [u8],
-    words: &[u8],
-    back: &mut [u8],
-) -> Tally
-    requires square { Square grid.old (side ver.value) }
-    requires square_2 { Square work.old (side ver.value) }
-    requires words_len_bound { (length words.now ≤ 4096) × (length back.old ≤ 4096) }
-{
-    modules::draw_label(grid, ver, ecl, mask, words);
-    modules::read_codewords(grid, work, ver, ecl, mask, back);
-    let found = *words == *back;
-    shown(t, kind, ver, ecl, mask, want, grid, found)
-}
-
-// Compares a grid.
-fn shown(
-    t: Tally,
-    kind: u8,
-    ver: Version,
-    ecl: QrCodeEcc,
-    mask: Mask,
-    want: &[u8],
-    grid: &[u8],
-    found: bool,
-) -> Tally
-    requires square { Square grid.now (side ver.value) }
-{
-    let size = patterns::size_of(ver);
-    let format = format_is(grid, ver, ecl, mask);
-    let right = asked(grid, size);
-    told_of(
-        t,
-        kind,
-        grid_is(kind, want, grid),
-        both(found, format),
-        right,
-    )
-}
-
-// Whether characters are the modules of a grid or, where the kind is D, their digest.
-fn grid_is(kind: u8, want: &[u8], grid: &[u8]) -> bool {
-    if kind == b'F' {
-        return listing::is_modules(want, grid);
+    codewords::fill(words, codewords::seed(case.ver, case.ecl, case.mask));
+    modules::draw_label(grid, case.ver, case.ecl, case.mask, words);
+    modules::read_codewords(grid, work, case.ver, case.ecl, case.mask, back);
+    let same = *words == *back;
+    Outcome {
+        equal: grid_is(case, grid),
+        found: same && format_is(case, grid),
+        right: asked(grid, patterns::size_of(case.ver)),
     }
-    let digest = listing::four(listing::digest(grid));
-    listing::is_hex(want, &digest)
 }
 
-// Both of two answers.
-fn both(a: bool, b: bool) -> bool {
-    a && b
+// Whether the characters of a case are the modules of a grid, or their digest.
+fn grid_is(case: &Case<'_>, grid: &[u8]) -> bool {
+    match case.kind {
+        Kind::Full => listing::is_modules(case.want, grid),
+        Kind::Digest => listing::is_hex(case.want, &listing::four(listing::digest(grid))),
+    }
 }
 
 // Whether level and mask are read.
-fn format_is(grid: &[u8], ver: Version, ecl: QrCodeEcc, mask: Mask) -> bool
-    requires square { Square grid.now (side ver.value) }
+fn format_is(case: &Case<'_>, grid: &[u8]) -> bool
+    requires square { Square grid.now (side case.now.ver.value) }
 {
-    let l = modules::read_level(grid, ver);
-    let m = modules::read_mask(grid, ver);
-    l.ordinal() == ecl.ordinal() && m == mask.value()
+    modules::read_level(grid, case.ver) == case.ecl
+        && modules::read_mask(grid, case.ver) == case.mask
 }
 
 // Whether the corner is dark, and all is light outside.
@@ -225,24 +160,4 @@ fn asked(grid: &[u8], size: usize) -> bool {
     let right = modules::get_module(grid, size, 177, 0);
     let below = modules::get_module(grid, size, 0, 2147483647);
     corner && !left && !above && !right && !below
-}
-
-// The counts after a grid: whether it is the same, gave back what was drawn, and answered right.
-fn told_of(t: Tally, kind: u8, equal: bool, found: bool, right: bool) -> Tally {
-    let full = kind == b'F';
-    Tally {
-        full: counted(t.full, full),
-        digests: counted(t.digests, !full),
-        differ: counted(t.differ, !equal),
-        lost: counted(t.lost, !found),
-        wrong: counted(t.wrong, !right),
-    }
-}
-
-// One more, if it counts.
-fn counted(n: u64, counts: bool) -> u64 {
-    if counts {
-        return n.wrapping_add(1);
-    }
-    n
 }

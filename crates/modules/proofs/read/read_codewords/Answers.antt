@@ -1,12 +1,10 @@
 -- `read_codewords` reads what the definition of reading says.
 -- Assumes nothing.
 use Rattle.std.proofs.Common.{rules}
-use Rattle.patterns.specs.Everything.{square_is}
+use Rattle.modules.specs.Zigzag.{read_at}
 use Rattle.modules.specs.Back.{words_read}
 use Rattle.modules.proofs.read.read_codewords.Goals as goal
 
-pub read_bits-requires : goal.read_bits-requires
-read_bits-requires c = record { square = square_is _ _ _ c.size_of-size.ensures (search rules); size_nonzero = search rules }
-
-pub returns : goal.returns
-returns c = search (words_read, rules)
+pub returns-clause-out_after : goal.returns-clause-out_after
+returns-clause-out_after c =
+    words_read _ _ _ _ _ _ _ _ c.unmask.ensures (c.zigzag.ensures (read_at c.unmask.new.work) (λ b at i r d e. search rules)) c.size_of-size.ensures

@@ -1,8 +1,8 @@
 -- `unmask` gives data modules without the mask.
 -- Assumes nothing.
-use Rattle.std.proofs.Common.{rules}
 use Rattle.modules.specs.Back.{grid_read}
 use Rattle.modules.proofs.read.unmask.Goals as goal
 
 pub returns : goal.returns
-returns c = search (grid_read, rules)
+returns c =
+    grid_read _ _ _ _ _ _ _ _ _ (c.fill.ensures.after (λ y e. e)) c.draw_function_patterns.ensures c.copy_data.ensures c.apply_mask.ensures c.requires.square_2
