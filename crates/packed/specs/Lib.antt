@@ -16,3 +16,4 @@ pub mod Masked
 pub mod Stored
 pub mod OneWord
 pub mod Unique
+pub mod Ways

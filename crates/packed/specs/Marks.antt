@@ -1,13 +1,14 @@
 -- Where a pattern stands in a line: the places as the digits of a number, and how many they are.
 -- Assumes nothing.
-use Rattle.std.specs.Prelude.{◌≡◌, refl, List, [], ◌∷◌, ◌++◌, Bool, true, false, ◌&&◌, ℕ, zero, suc, ◌+◌, ◌*◌, ◌/◌, ◌%◌, ◌^◌, ◌<◌, min, eqb, length, drop}
-use Rattle.std.proofs.Common.{sym, ap, ap₂, ◌∙◌, div-one, div-add-mod', add-one, drop-drop, arith, lit<, shr-shr}
+use Rattle.std.specs.Prelude.{◌≡◌, refl, List, [], ◌∷◌, ◌++◌, Bool, true, false, ◌&&◌, ℕ, zero, suc, ◌+◌, ◌*◌, ◌/◌, ◌%◌, ◌^◌, ◌<◌, min, eqb, nat_eq, IsTrue, ◌↔◌, length, drop}
+use Rattle.std.proofs.Common.{sym, ap, ap₂, ◌∙◌, div-one, div-add-mod', add-one, drop-drop, arith, lit<, shr-shr, eqb-true}
 use Rattle.std.proofs.Math.Nat.{zero-div}
 use Rattle.std.proofs.Math.Arith.{digits_mod, digits_div}
 use Rattle.std.specs.Int.Bits.{bit_and, bit_or, and_step, and_zero_l, differ, or_add_and}
 use Rattle.std.proofs.lemmas.Nat.{and_le_l, and_le_r}
 use Rattle.std.specs.Int.Count.{ones, ones_step}
 use Rattle.standard.specs.Numbers.{one}
+use Rattle.packed.specs.Words.{join3, zero3, all_zero}
 use Rattle.penalty.specs.Scan.{Modules}
 use Rattle.penalty.specs.Windows.{is}
 use Rattle.packed.specs.Digits.{value, low, value_odd, value_half, low_half, low_odd}
@@ -131,3 +132,11 @@ no_hits ps xs e = sym (marks_hits ps xs) ∙ ap ones e
 
 pub or_none : (a b : ℕ) → bit_or a b ≡ 0 → (a ≡ 0) × (b ≡ 0)
 or_none a b e = (omega (arith, or_add_and a b, and_le_l a b, and_le_r a b), omega (arith, or_add_and a b, and_le_l a b, and_le_r a b))
+
+-- no digit in any of three words
+pub or_light : (a b c : ℕ) → IsTrue (nat_eq (bit_or (bit_or a b) c) 0) ↔ (join3 a b c ≡ 0)
+or_light a b c = (
+  λ e.
+      let m = or_none (bit_or a b) c (eqb-true _ 0 e) in let n = or_none a b m.0 in all_zero a b c n.0 n.1 m.1,
+  λ e. let z = zero3 a b c e in rw (z.0, z.1, z.2),
+)

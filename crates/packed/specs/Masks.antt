@@ -1,12 +1,13 @@
 -- The lines of the masks, packed: they repeat after twelve lines and after twelve modules.
 -- Assumes nothing.
 use Rattle.std.specs.Prelude.{◌≡◌, Bool, List, [], ◌∷◌, ℕ, ◌+◌, ◌*◌, ◌/◌, ◌%◌, ◌^◌, ◌<◌, T, eqb, get_or}
-use Rattle.std.proofs.Common.{arith, eqb→eq}
+use Rattle.std.proofs.Common.{sym, ap, ◌∙◌, mod-eq_of_lt, arith, eqb→eq}
+use Rattle.std.proofs.Math.Arith.{digits_mod}
 use Rattle.standard.specs.Numbers.{one, tabulate}
 use Rattle.standard.specs.Masks.{mask_number, inverts}
 use Rattle.laws.specs.Computed.{among, below}
 use Rattle.packed.specs.Digits.{value}
-use Rattle.packed.specs.Words.{join3}
+use Rattle.packed.specs.Words.{join3, join_lt}
 
 -- entry m has the rows of mask m, entry 8 + m its columns: twelve lines of twelve digits, four lines a number
 unfoldable pub mask_table : List (List ℕ)
@@ -78,3 +79,17 @@ turned_lt p h = omega arith
 
 pub spread_fits : (t : ℕ) → t < 4096 → t * 0x1001001001001 + t % 16 * 0x1000000000000000 < 2 ^ 64
 spread_fits t h = omega arith
+
+-- what has room for 64 digits of it has its first word, and what has room for 192 all three
+pub spread_first : (p : ℕ) → p < 4096 → p * 0x10010010010010 ≡ spread p % 2 ^ 64
+unfolding spread join3
+spread_first p h = sym (digits_mod _ {m = 2 ^ 64} {r = p * 0x10010010010010} (omega arith))
+
+pub spread_all : (p x : ℕ) → p < 4096 → x ≡ spread p % 2 ^ 64
+    → join3 x (p * 0x1001001001001 + p % 16 * 0x1000000000000000) ((p / 16 + p % 16 * 256) * 0x1001001001001 + (p / 16 + p % 16 * 256) % 16 * 0x1000000000000000)
+    ≡ spread p % 2 ^ 192
+unfolding spread
+spread_all p x h e =
+    ap (λ (n : ℕ). join3 n (p * 0x1001001001001 + p % 16 * 0x1000000000000000) ((p / 16 + p % 16 * 256) * 0x1001001001001 + (p / 16 + p % 16 * 256) % 16 * 0x1000000000000000))
+    (e ∙ sym (spread_first p h))
+    ∙ sym (mod-eq_of_lt (join_lt (p * 0x10010010010010) _ _ (omega arith) (spread_fits p h) (spread_fits (p / 16 + p % 16 * 256) (turned_lt p h))))

@@ -1,15 +1,17 @@
 -- A line of a grid, packed word by word.
 -- Assumes nothing.
-use Rattle.std.specs.Prelude.{◌≡◌, refl, Bool, true, false, List, [], ◌∷◌, ◌++◌, ℕ, suc, ◌+◌, ◌-◌, ◌*◌, ◌%◌, ◌^◌, ◌≤◌, ◌<◌, length, get_or, ltb}
-use Rattle.std.proofs.Common.{sym, ap, ◌∙◌, subst, mul_assoc, add_assoc, add-mul, pow-suc, lt_of_lt_of_le, one-mul, mod-lt, zero-lt-suc, arith, pow_mono, shl_exact, lit<, lt-ltb, le-ltb}
+use Rattle.std.specs.Prelude.{◌≡◌, refl, Bool, true, false, List, [], ◌∷◌, ◌++◌, ℕ, suc, min, ◌+◌, ◌-◌, ◌*◌, ◌%◌, ◌^◌, ◌≤◌, ◌<◌, length, get_or, ltb}
+use Rattle.std.proofs.Common.{sym, ap, ap₂, ◌∙◌, subst, mul_assoc, add_assoc, add-mul, pow-suc, lt_of_lt_of_le, one-mul, mod-lt, zero-lt-suc, arith, pow_mono, shl_exact, lit<}
 use Rattle.std.proofs.Math.Pow.{ones_split}
+use mir.Val.{bool_byte}
 use Rattle.standard.specs.Numbers.{one, from, tabulate}
+use Rattle.laws.specs.Tests.{split}
 use Rattle.laws.specs.Lists.{length_from, from_append}
 use Rattle.penalty.specs.Scan.{Modules}
 use Rattle.penalty.specs.Windows.{is}
 use Rattle.penalty.specs.Lines.{from_modules}
 use Rattle.packed.specs.Digits.{value, low}
-use Rattle.packed.specs.Words.{join3}
+use Rattle.packed.specs.Words.{join3, one_word}
 use Rattle.packed.specs.Frame.{frame, value_frame}
 
 -- of a byte of a work grid: its colour or, if asked, whether it is a data module
@@ -21,13 +23,13 @@ digit_of false v = v % 2
 unfoldable pub digit_at : Bool → List ℕ → ℕ → ℕ → ℕ → ℕ
 digit_at free g start step i = digit_of free (get_or g (start + i * step) 0)
 
-pub digit_free : (b : Bool) (v : ℕ) → b ≡ true → v < 2 → 1 ≡ digit_of b v
-unfolding digit_of
-digit_free b v e h = rw (e, lt-ltb v 2 h)
-
-pub digit_kept : (b : Bool) (v : ℕ) → b ≡ true → 2 ≤ v → 0 ≡ digit_of b v
-unfolding digit_of
-digit_kept b v e h = rw (e, le-ltb v 2 h)
+pub digit_free : (b : Bool) (v : ℕ) → b ≡ true → bool_byte (ltb v 2) ≡ digit_of b v
+unfolding digit_of bool_byte
+digit_free b v e = rw e (go (ltb v 2))
+  where
+    go : (t : Bool) → bool_byte t ≡ one t
+    go true = refl
+    go false = refl
 
 pub digit_colour : (b : Bool) (v : ℕ) → b ≡ false → v % 2 ≡ digit_of b v
 unfolding digit_of
@@ -98,24 +100,43 @@ packed3 f a b n e q =
     ∙ ap (λ (m : ℕ). m * 16) (sym (split2 f 0 a (b + n) ∙ ap (λ (m : ℕ). value (from m (b + n) f) * 2 ^ a + value (from 0 a f)) (is (0 + a) a (omega arith))))
     ∙ sym (value_frame (tabulate (a + (b + n)) f))
 
-pub packed_two : (f : ℕ → ℕ) (s : ℕ) → 60 ≤ s → join3 (value (from 0 60 f) * 16) (value (from 60 (s - 60) f)) 0 ≡ value (frame (tabulate s f))
-packed_two f s h = packed2 f 60 (s - 60) refl ∙ ap (λ (n : ℕ). value (frame (tabulate n f))) (is (60 + (s - 60)) s (omega arith))
+pub packed_one : (f : ℕ → ℕ) (s x : ℕ) → x ≡ value (frame (tabulate s f)) → join3 x 0 0 ≡ value (frame (tabulate s f))
+packed_one f s x e = one_word x ∙ e
 
-pub packed_three : (f : ℕ → ℕ) (s : ℕ) → 124 ≤ s
-    → join3 (value (from 0 60 f) * 16) (value (from 60 64 f)) (value (from 124 (s - 124) f)) ≡ value (frame (tabulate s f))
-packed_three f s h = packed3 f 60 64 (s - 124) refl refl ∙ ap (λ (n : ℕ). value (frame (tabulate n f))) (is (60 + (64 + (s - 124))) s (omega arith))
+pub packed_two : (f : ℕ → ℕ) (s x y : ℕ) → 60 ≤ s → x ≡ value (frame (tabulate 60 f)) → y ≡ value (from 60 (s - 60) f)
+    → join3 x y 0 ≡ value (frame (tabulate s f))
+packed_two f s x y h ex ey =
+    ap₂ (λ (a b : ℕ). join3 a b 0) (ex ∙ value_frame (tabulate 60 f)) ey ∙ packed2 f 60 (s - 60) refl
+    ∙ ap (λ (n : ℕ). value (frame (tabulate n f))) (is (60 + (s - 60)) s (omega arith))
+
+pub packed_three : (f : ℕ → ℕ) (s x y z : ℕ) → 124 ≤ s → x ≡ value (frame (tabulate 60 f)) → y ≡ value (from 60 64 f)
+    → z ≡ value (from 124 (s - 124) f) → join3 x y z ≡ value (frame (tabulate s f))
+packed_three f s x y z h ex ey ez =
+    ap₂ (λ (a b : ℕ). join3 a b z) (ex ∙ value_frame (tabulate 60 f)) ey ∙ ap (join3 (value (from 0 60 f) * 16) (value (from 60 64 f))) ez
+    ∙ packed3 f 60 64 (s - 124) refl refl ∙ ap (λ (n : ℕ). value (frame (tabulate n f))) (is (60 + (64 + (s - 124))) s (omega arith))
 
 -- masks
-pub mask_two : (k : ℕ) → 64 ≤ k → join3 18446744073709551615 (low (k - 64)) 0 ≡ low k
+mask_two : (k : ℕ) → 64 ≤ k → join3 18446744073709551615 (low (k - 64)) 0 ≡ low k
 unfolding join3
 mask_two k h = is ((0 * 2 ^ 64 + low (k - 64)) * 2 ^ 64 + 18446744073709551615) (low (k - 64) * 2 ^ 64 + 18446744073709551615) (omega arith)
     ∙ sym (ones_split (k - 64) 64) ∙ ap low (omega arith)
 
-pub mask_three : (k : ℕ) → 128 ≤ k → join3 18446744073709551615 18446744073709551615 (low (k - 128)) ≡ low k
+mask_three : (k : ℕ) → 128 ≤ k → join3 18446744073709551615 18446744073709551615 (low (k - 128)) ≡ low k
 unfolding join3
 mask_three k h =
     ap (λ (n : ℕ). n * 2 ^ 64 + 18446744073709551615) (sym (ones_split (k - 128) 64) ∙ ap low (is (k - 128 + 64) (k - 64) (omega arith)))
     ∙ sym (ones_split (k - 64) 64) ∙ ap low (omega arith)
+
+pub mask_line : (k x y z : ℕ) → x ≡ low (min k 64) → y ≡ low (min (k - 64) 64) → z ≡ low (k - 128) → join3 x y z ≡ low k
+mask_line k x y z ex ey ez =
+    split k 64 (λ l. parts k 0 0 (omega arith) (omega arith) (omega arith) ∙ one_word (low k))
+    (λ h.
+    split k 128 (λ l. parts 64 (k - 64) 0 (omega arith) (omega arith) (omega arith) ∙ mask_two k h)
+    (λ u. parts 64 64 (k - 128) (omega arith) (omega arith) refl ∙ mask_three k u))
+  where
+    parts : (i j m : ℕ) → min k 64 ≡ i → min (k - 64) 64 ≡ j → k - 128 ≡ m → join3 x y z ≡ join3 (low i) (low j) (low m)
+    parts i j m ei ej em =
+        ap₂ (λ (a b : ℕ). join3 a b z) (ex ∙ ap low ei) (ey ∙ ap low ej) ∙ ap (join3 (low i) (low j)) (ez ∙ ap low em)
 
 pub shl_one : (k : ℕ) → k < 64 → 1 * 2 ^ k % 2 ^ 64 ≡ 2 ^ k
 shl_one k h = shl_exact {a = 1} 1 k 64 (lit< tt) (omega arith) ∙ one-mul (2 ^ k)

@@ -1,7 +1,7 @@
 -- The rows and columns of a grid, one line after the other: what they cost, the squares between rows, the dark modules.
 -- Assumes nothing.
 use Rattle.std.specs.Prelude.{◌≡◌, refl, List, [], ◌∷◌, ◌++◌, ℕ, zero, suc, ◌+◌, ◌-◌, ◌*◌, ◌%◌, ◌≤◌, ◌<◌, length, get_or, replicate}
-use Rattle.std.proofs.Common.{sym, ap, ap₂, ◌∙◌, mod-lt, zero-lt-suc, zero-add, add-one, arith}
+use Rattle.std.proofs.Common.{sym, subst, ap, ap₂, ◌∙◌, mod-lt, zero-lt-suc, zero-add, add-one, arith}
 use Rattle.std.specs.Int.Count.{ones, ones_step}
 use Rattle.standard.specs.Numbers.{from, tabulate, sum}
 use Rattle.standard.specs.Penalty.{module_of, row, column, line_cost, squares}
@@ -9,6 +9,7 @@ use Rattle.laws.specs.Lists.{length_tabulate}
 use Rattle.laws.specs.Sums.{sum_append, sum_cong, sum_shift, sum_blocks, sum_le, sum_next, sum_end}
 use Rattle.laws.specs.Each.{each}
 use Rattle.penalty.specs.Scan.{Modules}
+use Rattle.penalty.specs.Windows.{is}
 use Rattle.penalty.specs.Lines.{colours, colour_at, from_modules}
 use Rattle.packed.specs.Digits.{value, value_odd, value_half}
 use Rattle.packed.specs.Cores.{four_modules}
@@ -106,7 +107,7 @@ module _ (s : ℕ) (g : List ℕ) where
         darks = sym (zero-add d) ∙ sum_next (λ k. sum (row s (colours g) k)) 0 0 d refl (row_dark 0 last d e h);
       }
 
-  pub passed_next : (y last cost same dark next c q d : ℕ) → Passed y last cost same dark → next ≡ value (frame (row s (colours g) (y + 1)))
+  passed_next : (y last cost same dark next c q d : ℕ) → Passed y last cost same dark → next ≡ value (frame (row s (colours g) (y + 1)))
       → c ≡ line_cost s (line_of s next) → d ≡ ones next → q ≡ squares_of (line_of s last) (line_of s next)
       → Passed (y + 1) next (cost + c) (same + q) (dark + d)
   passed_next y last cost same dark next c q d p e f h i =
@@ -116,6 +117,13 @@ module _ (s : ℕ) (g : List ℕ) where
         evens = sum_next (squares s (colours g)) y same q p.evens (row_squares y last next q p.line e i);
         darks = sum_next (λ k. sum (row s (colours g) k)) (y + 1) dark d p.darks (row_dark (y + 1) next d e h);
       }
+
+  pub passed_more : (y last cost same dark next c q d : ℕ) → 1 ≤ y → Passed (y - 1) last cost same dark → next ≡ value (frame (row s (colours g) y))
+      → c ≡ line_cost s (line_of s next) → d ≡ ones next → q ≡ squares_of (line_of s last) (line_of s next)
+      → Passed (y + 1 - 1) next (cost + c) (same + q) (dark + d)
+  passed_more y last cost same dark next c q d l p e f h i =
+      subst (λ (n : ℕ). Passed n next (cost + c) (same + q) (dark + d)) (is (y - 1 + 1) (y + 1 - 1) (omega arith))
+      (passed_next (y - 1) last cost same dark next c q d p (e ∙ ap (λ (n : ℕ). value (frame (row s (colours g) n))) (is y (y - 1 + 1) (omega arith))) f h i)
 
 -- all rows together are the whole grid
 rows_sum : (s : ℕ) (g : List ℕ) → length g ≡ s * s → sum (tabulate s (λ k. sum (row s (colours g) k))) ≡ sum (colours g)

@@ -1,7 +1,7 @@
 // The penalty of a grid on packed lines: runs, cores, squares and dark modules by shifts and population counts.
 #![tactic(auto)]
 
-ghost use Rattle.std.specs.Prelude.{◌≡◌, ℕ, ◌*◌, ◌<◌, ◌≤◌, length};
+ghost use Rattle.std.specs.Prelude.{◌≡◌, ℕ, ◌+◌, ◌*◌, ◌<◌, ◌≤◌, length};
 ghost use Rattle.standard.specs.Penalty.{penalty};
 ghost use Rattle.laws.specs.Grid.{paint};
 ghost use Rattle.modules.specs.Mask.{masked};
@@ -9,16 +9,19 @@ ghost use Rattle.penalty.specs.Lines.{colours};
 ghost use Rattle.packed.specs.Rows.{RowSums, column_sum};
 ghost use Rattle.packed.specs.Stored.{RowHeld, ColumnHeld, HeldRows, HeldColumns};
 
+mod cost; // cost.rt: what a line costs
 mod lines; // lines.rt: lines of three words
 mod masking; // masking.rt: lines with a mask on them
 mod masks; // masks.rt: the lines of the eight masks
 mod packing; // packing.rt: lines of a grid, packed and kept
-mod word; // word.rt: lines of one word
+mod strip; // strip.rt: lines of any number of words, and of one
+mod way; // way.rt: rows and columns
 
-use lines::{count, line_cost, square_count};
-use masking::{column_line, column_word, row_line, row_word};
-use packing::{mask, ones_below, pack, store};
-use word::{count_word, line_cost_word, square_count_word};
+use cost::{line_cost, square_count};
+use lines::Line;
+use masking::Candidate;
+use strip::Strip;
+use way::Way;
 
 // For use in get_penalty_score, when evaluating which mask is best.
 const PENALTY_N2: u32 = 3;
@@ -33,10 +36,7 @@ pub fn pack_rows(grid: &[u8], side: usize, words: &mut [u64])
     requires { (side ≤ 177) × (length grid.now ≡ side * side) × (length words.old ≡ 6 * side) }
     ensures { (length words.new ≡ 6 * side) × ((k : ℕ) → k < side → RowHeld side grid.now words.new k) }
 {
-    for y in 0..side {
-        store(words, 6 * y, pack(grid, y * side, 1, side, false));
-        store(words, 6 * y + 3, pack(grid, y * side, 1, side, true));
-    }
+    packing::pack_lines(Way::Rows, grid, side, words);
 }
 
 // Packs every column of a grid likewise.
@@ -44,116 +44,68 @@ pub fn pack_columns(grid: &[u8], side: usize, words: &mut [u64])
     requires { (side ≤ 177) × (length grid.now ≡ side * side) × (length words.old ≡ 6 * side) }
     ensures { (length words.new ≡ 6 * side) × ((k : ℕ) → k < side → ColumnHeld side grid.now words.new k) }
 {
-    for x in 0..side {
-        store(words, 6 * x, pack(grid, x, side, side, false));
-        store(words, 6 * x + 3, pack(grid, x, side, side, true));
-    }
+    packing::pack_lines(Way::Columns, grid, side, words);
 }
 
 /*---- The whole grid ----*/
 
 // What the rows cost, the squares between them, and their dark modules.
 #[derive(Clone, Copy)]
-struct Rows {
+struct Sums {
     cost: u32,
     same: u32,
     dark: u32,
 }
 
 // Goes through the rows of the masked grid once.
-fn rows_of_lines(grid: &[u8], words: &[u64], side: usize, msk: usize) -> Rows
-    requires { (9 ≤ side) × (side ≤ 177) × (msk < 8) × (length grid.now ≡ side * side) × HeldRows side grid.now words.now }
-    ensures { RowSums side (paint side (masked msk) grid.now) result.cost result.same result.dark }
+fn rows_of<L: Strip>(grid: Candidate) -> Sums
+    requires { grid.side + 8 ≤ L.room }
+    ensures { RowSums grid.entry.side (paint grid.entry.side (masked grid.entry.msk) grid.entry.grid.now) result.cost result.same result.dark }
 {
-    let full = mask(side + 8);
-    let most = mask(side - 4);
-    let pairs = mask(side - 1);
-    let mut last = row_line(grid, words, side, msk, 0);
+    let side = grid.side;
+    let full = L::mask(side + 8);
+    let most = L::mask(side - 4);
+    let pairs = L::mask(side - 1);
+    let mut last: L = grid.line(Way::Rows, 0);
     let mut cost = line_cost(last, full, most, side);
-    let mut dark = count(last);
+    let mut dark = last.count();
     let mut same: u32 = 0;
-    let end = side - 1;
-    for y in 0..end {
-        let next = row_line(grid, words, side, msk, y + 1);
+    for y in 1..side {
+        let next: L = grid.line(Way::Rows, y);
         cost += line_cost(next, full, most, side);
-        dark += count(next);
+        dark += next.count();
         same += square_count(last, next, pairs, side);
         last = next;
     }
-    Rows { cost, same, dark }
-}
-
-// The same where a line stands in one word.
-fn rows_of_words(grid: &[u8], words: &[u64], side: usize, msk: usize) -> Rows
-    requires { (9 ≤ side) × (side ≤ 56) × (msk < 8) × (length grid.now ≡ side * side) × HeldRows side grid.now words.now }
-    ensures { RowSums side (paint side (masked msk) grid.now) result.cost result.same result.dark }
-{
-    let full = ones_below(side + 8);
-    let most = ones_below(side - 4);
-    let pairs = ones_below(side - 1);
-    let mut last = row_word(grid, words, side, msk, 0);
-    let mut cost = line_cost_word(last, full, most, side);
-    let mut dark = count_word(last);
-    let mut same: u32 = 0;
-    let end = side - 1;
-    for y in 0..end {
-        let next = row_word(grid, words, side, msk, y + 1);
-        cost += line_cost_word(next, full, most, side);
-        dark += count_word(next);
-        same += square_count_word(last, next, pairs, side);
-        last = next;
-    }
-    Rows { cost, same, dark }
-}
-
-// What the rows of the masked grid come to; a framed line of at most 56 modules stands in one word.
-fn rows_of(grid: &[u8], words: &[u64], side: usize, msk: usize) -> Rows
-    requires { (9 ≤ side) × (side ≤ 177) × (msk < 8) × (length grid.now ≡ side * side) × HeldRows side grid.now words.now }
-    ensures { RowSums side (paint side (masked msk) grid.now) result.cost result.same result.dark }
-{
-    if side <= WORD_SIDE {
-        return rows_of_words(grid, words, side, msk);
-    }
-    rows_of_lines(grid, words, side, msk)
+    Sums { cost, same, dark }
 }
 
 // Adjacent modules in column having same color, and finder-like patterns.
-fn columns_of_lines(grid: &[u8], words: &[u64], side: usize, msk: usize) -> u32
-    requires { (9 ≤ side) × (side ≤ 177) × (msk < 8) × (length grid.now ≡ side * side) × HeldColumns side grid.now words.now }
-    ensures { (result ≡ column_sum side (paint side (masked msk) grid.now)) × (result ≤ 6960 * side) }
+fn columns_of<L: Strip>(grid: Candidate) -> u32
+    requires { grid.side + 8 ≤ L.room }
+    ensures { (result ≡ column_sum grid.entry.side (paint grid.entry.side (masked grid.entry.msk) grid.entry.grid.now)) × (result ≤ 6960 * grid.entry.side) }
 {
-    let full = mask(side + 8);
-    let most = mask(side - 4);
+    let side = grid.side;
+    let full = L::mask(side + 8);
+    let most = L::mask(side - 4);
     let mut result: u32 = 0;
     for x in 0..side {
-        result += line_cost(column_line(grid, words, side, msk, x), full, most, side);
+        let column: L = grid.line(Way::Columns, x);
+        result += line_cost(column, full, most, side);
     }
     result
 }
 
-// The same where a line stands in one word.
-fn columns_of_words(grid: &[u8], words: &[u64], side: usize, msk: usize) -> u32
-    requires { (9 ≤ side) × (side ≤ 56) × (msk < 8) × (length grid.now ≡ side * side) × HeldColumns side grid.now words.now }
-    ensures { (result ≡ column_sum side (paint side (masked msk) grid.now)) × (result ≤ 6960 * side) }
+// The score of a grid whose framed lines fit a kind of line.
+fn score<L: Strip>(grid: Candidate) -> u32
+    requires { grid.side + 8 ≤ L.room }
+    ensures { result ≡ penalty grid.entry.side (colours (paint grid.entry.side (masked grid.entry.msk) grid.entry.grid.now)) }
 {
-    let full = ones_below(side + 8);
-    let most = ones_below(side - 4);
-    let mut result: u32 = 0;
-    for x in 0..side {
-        result += line_cost_word(column_word(grid, words, side, msk, x), full, most, side);
-    }
-    result
-}
-
-// What the columns of the masked grid cost likewise.
-fn columns_cost(grid: &[u8], words: &[u64], side: usize, msk: usize) -> u32
-    requires { (9 ≤ side) × (side ≤ 177) × (msk < 8) × (length grid.now ≡ side * side) × HeldColumns side grid.now words.now }
-    ensures { (result ≡ column_sum side (paint side (masked msk) grid.now)) × (result ≤ 6960 * side) }
-{
-    if side <= WORD_SIDE {
-        return columns_of_words(grid, words, side, msk);
-    }
-    columns_of_lines(grid, words, side, msk)
+    let across = rows_of::<L>(grid);
+    let lines = across.cost + columns_of::<L>(grid);
+    let same = PENALTY_N2 * across.same;
+    let total = (grid.side * grid.side) as u32;
+    lines + same + PENALTY_N4 * penalty::balance_of(across.dark, total)
 }
 
 // Calculates and returns the penalty score of a grid as it is with the mask on it, which is not drawn.
@@ -163,9 +115,16 @@ pub fn get_penalty_score(grid: &[u8], rows: &[u64], columns: &[u64], side: usize
     requires held_rows { HeldRows side grid.now rows.now × HeldColumns side grid.now columns.now }
     ensures { result ≡ penalty side (colours (paint side (masked msk) grid.now)) }
 {
-    let across = rows_of(grid, rows, side, msk);
-    let lines = across.cost + columns_cost(grid, columns, side, msk);
-    let same = PENALTY_N2 * across.same;
-    let total = (side * side) as u32;
-    lines + same + PENALTY_N4 * penalty::balance_of(across.dark, total)
+    let candidate = Candidate {
+        grid,
+        rows,
+        columns,
+        side,
+        msk,
+    };
+    if side <= WORD_SIDE {
+        score::<u64>(candidate)
+    } else {
+        score::<Line>(candidate)
+    }
 }

@@ -1,6 +1,6 @@
 -- `packed::packing::pack_word` meets its contract. The modules are taken from the last to the first.
 -- Assumes nothing.
-use mathlib.Core.Path.{◌≡◌, refl, sym, ap, ap₂, ◌∙◌}
+use mathlib.Core.Path.{◌≡◌, refl, sym, ap, ◌∙◌}
 use Prim.Native.Nat.{ℕ, suc, ◌+◌, ◌-◌, ◌*◌}
 use native.Mathlib.Omega.{arith}
 use Rattle.standard.specs.Numbers.{from}
@@ -18,29 +18,10 @@ loop-i-init c =
     none : (k : ℕ) (f : ℕ → ℕ) → value (from k 0 f) ≡ 0
     none k f = refl
 
-pub overflow_sub-i : goal.overflow_sub-i
-overflow_sub-i c = omega arith
-
 pub overflow_mul-w : goal.overflow_mul-w
 overflow_mul-w c =
-    let r = c.args in
-    omega (
-      arith,
-      c.loop-i.invariant.1,
-      word_lt (digit_at r.free r.grid.now r.start r.step) (at_lt r.free r.grid.now r.start r.step) (r.first + c.loop-i.i) (r.n - c.loop-i.i) 63 (omega arith),
-    )
-
-pub overflow_add-first : goal.overflow_add-first
-overflow_add-first c = omega arith
-
-pub overflow_mul-first : goal.overflow_mul-first
-overflow_mul-first c = omega (arith, c.requires.2 (c.args.first + (c.loop-i.i - 1)) (omega arith))
-
-pub overflow_add-start : goal.overflow_add-start
-overflow_add-start c = omega (arith, c.requires.2 (c.args.first + (c.loop-i.i - 1)) (omega arith))
-
-pub bounds-grid-start : goal.bounds-grid-start
-bounds-grid-start c = c.requires.2 (c.args.first + (c.loop-i.i - 1)) (omega arith)
+    let r = c.args in let l = c.loop-i in
+    omega (arith, l.invariant.1, word_lt (digit_at r.free r.grid.now r.start r.step) (at_lt r.free r.grid.now r.start r.step) (r.first + l.i) (r.n - l.i) 63 (omega arith))
 
 pub overflow_add-w : goal.overflow_add-w
 overflow_add-w c =
@@ -52,9 +33,6 @@ overflow_add-w c =
       c.digit_of.ensures.1,
     )
 
-pub loop-i-smaller : goal.loop-i-smaller
-loop-i-smaller c = omega arith
-
 pub loop-i-preserved : goal.loop-i-preserved
 loop-i-preserved c =
     let r = c.args in let a = c.loop-i in
@@ -64,8 +42,3 @@ loop-i-preserved c =
           ∙ word_more f k (r.n - a.i) a.w (a.invariant.1 ∙ ap (λ (j : ℕ). value (from j (r.n - a.i) f)) (is (r.first + a.i) (suc k) (omega arith)))
           ∙ ap (λ (j : ℕ). value (from k j f)) (is (suc (r.n - a.i)) (r.n - (a.i - 1)) (omega arith)),
     )
-
-pub returns : goal.returns
-returns c =
-    let r = c.args in let a = c.loop-i in let f = digit_at r.free r.grid.now r.start r.step in
-    a.invariant.1 ∙ ap₂ (λ (j k : ℕ). value (from j k f)) (is (r.first + a.i) r.first (omega arith)) (is (r.n - a.i) r.n (omega arith))

@@ -8,7 +8,5 @@ use Rattle.packed.specs.Packs.{digit_at}
 use Rattle.packed.proofs.packing.pack_word.Given as goal
 
 abbrev pub invariant-loop-i : goal.invariant-loop-i
-invariant-loop-i l = (l.i ≤ l.n) × (l.w ≡ value (from (l.first + l.i) (l.n - l.i) (digit_at l.free l.grid l.start l.step)))
-
-abbrev pub decreases-loop-i : goal.decreases-loop-i
-decreases-loop-i l = l.i
+invariant-loop-i l =
+    (l.i ≤ l.n) × (l.w ≡ value (from (l.first + l.i) (l.n - l.i) (digit_at l.free l.grid l.start l.step)))

@@ -1,9 +1,0 @@
--- `packed::lines::run_cost` meets its contract.
--- Assumes nothing.
-use native.Mathlib.Omega.{arith}
-use Rattle.packed.specs.Cost.{word_cost, fives}
-use Rattle.packed.proofs.lines.run_cost.Goals as goal
-
-pub returns : goal.returns
-unfolding word_cost fives
-returns c = (cc, omega arith)
