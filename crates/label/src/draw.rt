@@ -1,35 +1,35 @@
 // Draws the label of a text.
-ghost use Rattle.std.specs.Prelude.{◌≤◌, length};
-
-use super::out::say;
 use super::refusals::refused;
 use encoder::Outcome;
+use std::io;
 use streams::read_full;
 use terminal::options::Options;
-use terminal::picture;
-use terminal::text::caption;
-use terminal::words::line_length;
+use terminal::text::{Text, caption};
+use terminal::{picture, words};
+use types::{Mask, QrCodeEcc, Version};
 
 // Draws a label and says which one it is.
-fn show(rt: &impl Print, grid: &[u8], version: u8, level: usize, mask: u8, out: &mut [u8])
-    requires { 53000 ≤ length out.old }
-{
-    if version <= 40 {
-        let v = version as usize;
-        let n = picture::draw(4 * v + 17, grid, out);
-        let end = caption(out, n, version, level, mask);
-        say(rt, &out[0..end]);
-    }
+fn show(
+    rt: &impl Print,
+    grid: &[u8],
+    version: Version,
+    level: QrCodeEcc,
+    mask: Mask,
+) -> io::Result<()> {
+    let mut memory = [0u8; 53000];
+    let mut out = Text::new(&mut memory);
+    picture::draw(4 * version.value() as usize + 17, grid, &mut out);
+    caption(&mut out, version.value(), level, mask.value());
+    rt.write_all(out.bytes())
 }
 
 // Makes the label of a text, and draws it or says why there is none.
-fn make(rt: &impl Print, o: Options, text: &[u8]) {
+fn make(rt: &impl Print, o: Options, text: &[u8]) -> io::Result<()> {
     let mut grid = [0u8; 31329];
     let mut scratch = [0u8; 40000];
-    let mut out = [0u8; 53000];
     let outcome = encoder::encode_text(
         text,
-        o.level,
+        o.level.ordinal() as u8,
         o.first,
         o.last,
         o.mask,
@@ -42,31 +42,18 @@ fn make(rt: &impl Print, o: Options, text: &[u8]) {
             version,
             level,
             mask,
-        } => show(
-            rt,
-            &grid,
-            version.value(),
-            level.ordinal(),
-            mask.value(),
-            &mut out,
-        ),
-        Outcome::Refused(r) => refused(rt, r, o.last as usize, o.level as usize),
+        } => show(rt, &grid, version, level, mask),
+        Outcome::Refused(r) => refused(rt, r, o),
     }
 }
 
-// Takes the newline off the text, and makes its label.
-fn line(rt: &impl Print, o: Options, text: &[u8]) {
-    let n = line_length(text);
-    if 8192 < n {
-        say(rt, b"label: the text has more than 8192 bytes\n");
-        return;
+// Reads the text and takes the newline off it. Room for one byte more than a text and its newline shows that it is too long.
+pub(crate) fn read_text(rt: &(impl Input + Print), o: Options) -> io::Result<()> {
+    let mut memory = [0u8; 8194];
+    let n = read_full(&mut rt.reader(), &mut memory);
+    let text = words::line(&memory[..n]);
+    if 8192 < text.len() {
+        return rt.print("label: the text has more than 8192 bytes\n");
     }
-    make(rt, o, &text[0..n]);
-}
-
-// Reads the text. Room for one byte more than a text and its newline shows that it is too long.
-pub(crate) fn read_text(rt: &(impl Input + Print), o: Options) {
-    let mut text = [0u8; 8194];
-    let n = read_full(&mut rt.reader(), &mut text);
-    line(rt, o, &text[..n]);
+    make(rt, o, text)
 }

@@ -2,149 +2,143 @@
 // Here is the command line; what reads or writes besides is in draw, read and show.
 #![tactic(auto)]
 
-ghost use Rattle.std.specs.Prelude.{◌+◌, ◌<◌, ◌^◌};
+ghost use Rattle.std.specs.Prelude.{◌+◌, ◌≤◌, ◌<◌, ◌^◌, length};
 
-use out::say;
 use std::env::{Env, FillError};
+use std::io;
+use terminal::options;
 use terminal::options::Options;
-use terminal::{options, text, words};
+use terminal::text::{Text, escape};
 
 mod draw; // draws the label of a text
 mod help; // what the program says of itself
-mod out; // writes to standard output
 mod read; // reads a label from standard input
 mod refusals; // the words of refusals
 mod show; // what a label that was read holds
 
+// What the command line asks for; or that it was not understood, which was said.
+#[derive(Clone, Copy)]
+enum Asked {
+    Draw(Options),
+    Read,
+    Help,
+    NotUnderstood,
+}
+
 // Writes a word of the command line, escaped.
-fn word(rt: &impl Print, w: &[u8]) {
-    let mut out = [0u8; 64];
-    if w.len() <= 16 {
-        let n = text::escape(&mut out, 0, w);
-        say(rt, &out[0..n]);
-    }
-}
-
-// Says which words are no option.
-fn told(rt: &impl Print, what: &[u8], name: &[u8], value: &[u8]) {
-    say(rt, what);
-    word(rt, name);
-    say(rt, b" ");
-    word(rt, value);
-    say(rt, b"\n\n");
-}
-
-// The options after the option of a name and its value.
-fn option_value(rt: &impl Print, o: Options, name: &[u8], value: &[u8]) -> Options {
-    let next = options::chosen(o, name, value);
-    if next.wrong {
-        told(rt, b"label: not understood: ", name, value);
-    }
-    next
-}
-
-// The options after the option of a name, whose value is word i.
-fn option_one(rt: &(impl Env + Print), o: Options, i: usize, name: &[u8]) -> Options {
-    let mut value = [0u8; 16];
-    match rt.arg(i, &mut value) {
-        Err(FillError::NotPresent) => {
-            told(
-                rt,
-                b"label: not understood, or without its value: ",
-                name,
-                b"",
-            );
-            options::wrong(o)
-        }
-        Err(FillError::TooLong) => {
-            told(rt, b"label: not understood: the value of ", name, b"");
-            options::wrong(o)
-        }
-        Ok(n) => option_value(rt, o, name, &value[..n]),
-    }
-}
-
-// The options after the option of a name, which is word i.
-fn option_named(rt: &(impl Env + Print), o: Options, i: usize, name: &[u8]) -> Options
-    requires { i + 1 < 2 ^ 64 }
+fn word(rt: &impl Print, w: &[u8]) -> io::Result<()>
+    requires { length w.now ≤ 16 }
 {
-    if words::same(name, b"--help") {
-        return options::helped(o);
-    }
-    option_one(rt, o, i + 1, name)
+    let mut memory = [0u8; 64];
+    let mut out = Text::new(&mut memory);
+    escape(&mut out, w);
+    rt.write_all(out.bytes())
 }
 
-// The options after the words i and i + 1.
-fn option_pair(rt: &(impl Env + Print), o: Options, i: usize) -> Options
+// Says which words are not understood.
+fn not_understood(rt: &impl Print, what: &str, name: &[u8], value: &[u8]) -> io::Result<Asked>
+    requires { (length name.now ≤ 16) × (length value.now ≤ 16) }
+{
+    rt.print(what)?;
+    word(rt, name)?;
+    rt.print(" ")?;
+    word(rt, value)?;
+    rt.print("\n\n")?;
+    Ok(Asked::NotUnderstood)
+}
+
+// What is asked for after the option of a name and its value.
+fn option_value(rt: &impl Print, o: Options, name: &[u8], value: &[u8]) -> io::Result<Asked>
+    requires { (length name.now ≤ 16) × (length value.now ≤ 16) }
+{
+    match options::chosen(o, name, value) {
+        Some(next) => Ok(Asked::Draw(next)),
+        None => not_understood(rt, "label: not understood: ", name, value),
+    }
+}
+
+// What is asked for after the option of a name, which is word i.
+fn option_named(rt: &(impl Env + Print), o: Options, i: usize, name: &[u8]) -> io::Result<Asked>
+    requires { (i + 1 < 2 ^ 64) × (length name.now ≤ 16) }
+{
+    if name == b"--help".as_slice() {
+        return Ok(Asked::Help);
+    }
+    let mut value = [0u8; 16];
+    match rt.arg(i + 1, &mut value) {
+        Ok(n) => option_value(rt, o, name, &value[..n]),
+        Err(FillError::NotPresent) => not_understood(
+            rt,
+            "label: not understood, or without its value: ",
+            name,
+            b"",
+        ),
+        Err(FillError::TooLong) => not_understood(
+            rt,
+            "label: not understood: the value of ",
+            name,
+            b"",
+        ),
+    }
+}
+
+// What is asked for after the words i and i + 1.
+fn option_pair(rt: &(impl Env + Print), o: Options, i: usize) -> io::Result<Asked>
     requires { i + 1 < 2 ^ 64 }
 {
     let mut name = [0u8; 16];
     match rt.arg(i, &mut name) {
-        Err(_) => {
-            say(
-                rt,
-                b"label: not understood: a word of more than 16 letters\n\n",
-            );
-            options::wrong(o)
-        }
         Ok(n) => option_named(rt, o, i, &name[..n]),
+        Err(_) => {
+            rt.print("label: not understood: a word of more than 16 letters\n\n")?;
+            Ok(Asked::NotUnderstood)
+        }
     }
 }
 
 // How many words the command line has, the program's own name among them.
 fn word_count(rt: &impl Env) -> usize {
-    for i in 0..usize::MAX {
-        let mut none = [0u8; 0];
-        if let Err(FillError::NotPresent) = rt.arg(i, &mut none) {
-            return i;
-        }
-    }
-    usize::MAX
+    (0..usize::MAX)
+        .find(|i| matches!(rt.arg(*i, &mut []), Err(FillError::NotPresent)))
+        .unwrap_or(usize::MAX)
 }
 
-// Reads the options, up to the first that is none.
-fn option_words(rt: &(impl Env + Print)) -> Options {
-    let pairs = word_count(rt) / 2;
-    let mut o = options::defaults();
-    let mut k: usize = 0;
-    while k < pairs {
-        if o.help {
-            return o;
-        }
-        if o.wrong {
-            return o;
-        }
-        o = option_pair(rt, o, 2 * k + 1);
-        k += 1;
-    }
-    o
-}
-
-// Whether the command line is the one word `read`.
-fn asked_to_read(rt: &impl Env) -> bool {
+// Whether word i is a word of at most 16 bytes.
+fn is_word(rt: &impl Env, i: usize, word: &[u8]) -> bool {
     let mut name = [0u8; 16];
-    if word_count(rt) != 2 {
-        return false;
-    }
-    match rt.arg(1, &mut name) {
+    match rt.arg(i, &mut name) {
+        Ok(n) => &name[..n] == word,
         Err(_) => false,
-        Ok(n) => words::same(&name[..n], b"read"),
     }
 }
 
+// What the command line asks for, up to the first words that are not understood.
+fn command(rt: &(impl Env + Print)) -> io::Result<Asked> {
+    let words = word_count(rt);
+    if words == 2 && is_word(rt, 1, b"read") {
+        return Ok(Asked::Read);
+    }
+    let mut o = options::defaults();
+    for k in 0..words / 2 {
+        match option_pair(rt, o, 2 * k + 1)? {
+            Asked::Draw(next) => o = next,
+            other => return Ok(other),
+        }
+    }
+    Ok(Asked::Draw(o))
+}
+
+// Does what the command line asks for.
+fn run(rt: &(impl Env + Input + Print)) -> io::Result<()> {
+    match command(rt)? {
+        Asked::Draw(o) => draw::read_text(rt, o),
+        Asked::Read => read::read_label(rt),
+        Asked::Help => rt.print(help::HELP),
+        Asked::NotUnderstood => rt.print(help::USAGE),
+    }
+}
+
+// A write that fails ends the program, with status 0: what reads the output is gone then.
 fn main(rt: HostRuntime) {
-    if asked_to_read(&rt) {
-        read::read_label(&rt);
-        return;
-    }
-    let o = option_words(&rt);
-    if o.wrong {
-        help::usage(&rt);
-        return;
-    }
-    if o.help {
-        help::help(&rt);
-        return;
-    }
-    draw::read_text(&rt, o);
+    let _ = run(&rt);
 }

@@ -1,97 +1,92 @@
 // Reads the label of a grid, and says which one it is and what its segments hold.
-ghost use Rattle.std.specs.Prelude.{◌+◌, ◌≤◌, ◌<◌, ◌^◌, length};
+ghost use Rattle.std.specs.Prelude.{◌+◌, ◌≤◌, ◌<◌, ◌^◌, length, IfOk};
 ghost use Rattle.records.specs.Reading.{count};
 ghost use Rattle.records.specs.Within.{Within};
 
-use super::out::{number, say};
 use super::refusals::unread;
 use records::Record;
-use terminal::text;
-use terminal::words::same;
+use std::io;
+use terminal::text::{Text, caption, escape};
+use types::{Mask, QrCodeEcc, Version};
 
 /*---- Segments ----*/
 
-// Says the name of a kind of characters.
-fn kind_name(rt: &impl Print, kind: u64) {
-    if kind == 0 {
-        say(rt, b"numeric");
-    }
-    if kind == 1 {
-        say(rt, b"alphanumeric");
-    }
-    if kind == 2 {
-        say(rt, b"byte");
+// The name of a record's kind of characters.
+fn kind_name(kind: u64) -> &'static str {
+    match kind {
+        0 => "numeric",
+        1 => "alphanumeric",
+        2 => "byte",
+        _ => "",
     }
 }
 
 // Says kind, length and characters of a segment.
-fn tell_characters(rt: &impl Print, kind: u64, characters: &[u8])
+fn tell_characters(rt: &impl Print, kind: u64, characters: &[u8]) -> io::Result<()>
     requires { length characters.now ≤ 7089 }
 {
-    let mut out = [0u8; 28356];
-    let n = text::escape(&mut out, 0, characters);
-    kind_name(rt, kind);
-    say(rt, b", length ");
-    number(rt, characters.len());
-    say(rt, b": ");
-    say(rt, &out[0..n]);
-    say(rt, b"\n");
+    let mut memory = [0u8; 28356];
+    let mut out = Text::new(&mut memory);
+    escape(&mut out, characters);
+    let name = kind_name(kind);
+    let n = characters.len();
+    print!(rt; "{name}, length {n}: ")?;
+    rt.write_all(out.bytes())?;
+    rt.print("\n")
 }
 
-// Says segment i, counted from 0.
-fn tell_segment(rt: &impl Print, i: usize, r: Record, text: &[u8])
-    requires { (i + 1 < 2 ^ 64) × (r.start + r.length ≤ length text.now) × (length text.now ≤ 7089) }
+// Says a segment after its number.
+fn tell_segment(rt: &impl Print, r: Record, text: &[u8]) -> io::Result<()>
+    requires { (r.start + r.length ≤ length text.now) × (length text.now ≤ 7089) }
 {
-    say(rt, b"segment ");
-    number(rt, i + 1);
-    say(rt, b": ");
     if r.kind == 3 {
-        say(rt, b"ECI ");
-        streams::number(rt, r.assign);
-        say(rt, b"\n");
-        return;
+        return println!(rt; "ECI {}", r.assign);
     }
     let start = r.start as usize;
     let end = start + r.length as usize;
-    tell_characters(rt, r.kind, &text[start..end]);
+    tell_characters(rt, r.kind, &text[start..end])
 }
 
-// Says the first n segments.
-fn tell_segments(rt: &impl Print, n: usize, records: &[Record], text: &[u8])
+// Says the first n segments, counted from 1.
+fn tell_segments(rt: &impl Print, n: usize, records: &[Record], text: &[u8]) -> io::Result<()>
     requires { (n ≤ length records.now) × Within n records.now (length text.now) × (length text.now ≤ 7089) }
 {
-    let mut i: usize = 0;
-    while i < n {
-        tell_segment(rt, i, records[i], text);
-        i += 1;
+    for (i, r) in records[..n].iter().enumerate() {
+        print!(rt; "segment {}: ", i + 1)?;
+        tell_segment(rt, *r, text)?;
     }
+    Ok(())
 }
 
 /*---- The label ----*/
 
 // Says which label was read, and returns whether it is the right one. What stands under a picture has to be the line that goes with it.
-fn tell_label(rt: &impl Print, version: u8, level: usize, mask: u8, under: &[u8]) -> bool {
-    let mut out = [0u8; 40];
-    let n = text::caption(&mut out, 0, version, level, mask);
-    if under.len() != 0 {
-        if !same(under, &out[0..n]) {
-            say(rt, b"label: the line under the picture should be: ");
-            say(rt, &out[0..n]);
-            return false;
-        }
+fn tell_label(
+    rt: &impl Print,
+    version: Version,
+    level: QrCodeEcc,
+    mask: Mask,
+    under: &[u8],
+) -> io::Result<bool> {
+    let mut memory = [0u8; 40];
+    let mut out = Text::new(&mut memory);
+    caption(&mut out, version.value(), level, mask.value());
+    let right = under.is_empty() || under == out.bytes();
+    if !right {
+        rt.print("label: the line under the picture should be: ")?;
     }
-    say(rt, &out[0..n]);
-    true
+    rt.write_all(out.bytes())?;
+    Ok(right)
 }
 
 // Says which label was read or why there is none, and returns how many segments are to be said.
-fn tell(rt: &impl Print, outcome: reader::Outcome, under: &[u8]) -> usize
-    ensures { result ≤ count outcome }
+fn tell(rt: &impl Print, outcome: reader::Outcome, under: &[u8]) -> io::Result<usize>
+    ensures { IfOk result (λ n. n ≤ count outcome) }
 {
     match outcome {
         reader::Outcome::Refused(r) => {
-            unread(rt, r);
-            0
+            unread(rt, r)?;
+            Ok(0)
         }
         reader::Outcome::Label {
             version,
@@ -100,19 +95,19 @@ fn tell(rt: &impl Print, outcome: reader::Outcome, under: &[u8]) -> usize
             records,
             text,
         } => {
-            if !tell_label(rt, version.value(), level.ordinal(), mask.value(), under) {
-                return 0;
+            if !tell_label(rt, version, level, mask, under)? {
+                return Ok(0);
             }
             if records == 0 {
-                say(rt, b"no segments\n");
+                rt.print("no segments\n")?;
             }
-            records
+            Ok(records)
         }
     }
 }
 
 // Reads the label that a grid shows, and says what it holds or why it is none.
-pub(crate) fn read_grid(rt: &impl Print, grid: &[u8], side: usize, under: &[u8]) {
+pub(crate) fn read_grid(rt: &impl Print, grid: &[u8], side: usize, under: &[u8]) -> io::Result<()> {
     let none = Record {
         kind: 0,
         start: 0,
@@ -123,5 +118,6 @@ pub(crate) fn read_grid(rt: &impl Print, grid: &[u8], side: usize, under: &[u8])
     let mut records = [none; 2048];
     let mut scratch = [0u8; 40000];
     let outcome = records::read(grid, side, &mut text, &mut records, &mut scratch);
-    tell_segments(rt, tell(rt, outcome, under), &records, &text);
+    let n = tell(rt, outcome, under)?;
+    tell_segments(rt, n, &records, &text)
 }

@@ -83,11 +83,12 @@ scanned_small side n hs i =
     (λ h. let e = get_or-eq_default (tabulate n (module_of side hs)) 0 {n = i} (omega (arith, length_tabulate n (module_of side hs))) in omega arith)
 
 -- what is written from the start on
-said_part : {o w h : List ℕ} {r : ℕ} → Said o 0 w h r → take (r - 0) (drop 0 h) ≡ w
-said_part {o} {w} {h} {r} s =
-    let e : r - 0 ≡ length w = omega arith in
-    let z : over 0 w o ≡ w ++ drop (0 + length w) o = ap (λ (l : List ℕ). l ++ (w ++ drop (0 + length w) o)) (nothing o) in
-    ap₂ (λ (k : ℕ) (l : List ℕ). take k l) e (s.whole ∙ z) ∙ take-append_seam w (drop (0 + length w) o)
+pub said_part : {o w h : List ℕ} {at r : ℕ} → Said o at w h r → at ≡ 0 → take r h ≡ w
+said_part {o} {w} {h} {at} {r} s z =
+    let e : r ≡ length w = omega arith in
+    let f : over at w o ≡ w ++ drop (0 + length w) o
+    = ap (λ (k : ℕ). over k w o) z ∙ ap (λ (l : List ℕ). l ++ (w ++ drop (0 + length w) o)) (nothing o) in
+    ap₂ (λ (k : ℕ) (l : List ℕ). take k l) e (s.whole ∙ f) ∙ take-append_seam w (drop (0 + length w) o)
   where
     nothing : (l : List ℕ) → take 0 l ≡ []
     nothing [] = refl
@@ -96,37 +97,36 @@ said_part {o} {w} {h} {r} s =
 no_picture_at : (t : List ℕ) (side k : ℕ) (h rest : List ℕ) → side ≡ side_of t → t ≡ picture k h ++ rest → side ≡ k
 no_picture_at t side k h rest s e = let p : place 10 t ≡ k + 21 = ap (place 10) e ∙ picture_side k h rest in s ∙ omega arith
 
-module _ (t w₁ w₂ g g' : List ℕ) (side n end : ℕ) (b : Bool) (m : b ≡ begins_with t (take (end - 0) (drop 0 w₂))) where
-  pub begins_drawn : b ≡ true → Said w₁ 0 (picture side g') w₂ end → g' ≡ tabulate (length g) (module_of side (take (n - 0) (drop 0 w₁)))
-      → length g ≡ side * side → 0 < side → side ≤ 177 → Begins t side end g'
-  begins_drawn q s e l p u =
-      let w : begins_with t (picture side g') ≡ true = ap (begins_with t) (sym (said_part s)) ∙ sym m ∙ q in
+-- a text t, the last bytes h of its characters, the grid g' that they show, and what is drawn of it, d
+module _ (t h d g g' : List ℕ) (side : ℕ) (b : Bool) (m : b ≡ begins_with t d) (q : d ≡ picture side g') (e : g' ≡ tabulate (length g) (module_of side h)) (l : length g ≡ side * side) where
+  pub begins_drawn : b ≡ true → 0 < side → side ≤ 177 → Begins t side (length d) g'
+  begins_drawn y p u =
+      let w : begins_with t (picture side g') ≡ true = ap (begins_with t) (sym q) ∙ sym m ∙ y in
       let x : take (length (picture side g')) t ≡ picture side g'
       = same_eq (take (length (picture side g')) t) (picture side g') (true_T (same (take (length (picture side g')) t) (picture side g')) w) in
       drawn (drop (length (picture side g')) t)
       (record {
         some = p;
         small = u;
-        size = ap length e ∙ length_tabulate (length g) (module_of side (take (n - 0) (drop 0 w₁))) ∙ l;
-        modules = λ i. rw e (scanned_small side (length g) (take (n - 0) (drop 0 w₁)) i);
+        size = ap length e ∙ length_tabulate (length g) (module_of side h) ∙ l;
+        modules = λ i. rw e (scanned_small side (length g) h i);
       })
       (sym (take-append-drop (length (picture side g')) t) ∙ ap (λ (l : List ℕ). l ++ drop (length (picture side g')) t) x)
-      (s.end ∙ omega arith)
+      (ap length q)
 
-  pub begins_none : b ≡ false → Said w₁ 0 (picture side g') w₂ end → g' ≡ tabulate (length g) (module_of side (take (n - 0) (drop 0 w₁)))
-      → length g ≡ side * side → (w₀ : List ℕ) → Said w₀ 0 (halves t) w₁ n → side ≡ side_of t → Begins t side 0 g'
-  begins_none q s e l w₀ hs z =
+  pub begins_none : b ≡ false → h ≡ halves t → side ≡ side_of t → Begins t side 0 g'
+  begins_none n hs z =
       none refl
-      (λ k h rest d r.
-      let i : side ≡ k = no_picture_at t side k h rest z r in
+      (λ k i rest r s.
+      let j : side ≡ k = no_picture_at t side k i rest z s in
       let a : g' ≡ tabulate (side * side) (module_of side (halves t))
-      = e ∙ ap₂ (λ (j : ℕ) (x : List ℕ). tabulate j (module_of side x)) l (said_part hs) in
-      let c : tabulate (k * k) (module_of k (halves t)) ≡ h = ap (λ (x : List ℕ). tabulate (k * k) (module_of k (halves x))) r ∙ scan_picture k h d rest in
-      let v : picture side g' ≡ picture k h = ap (picture side) a ∙ ap (λ (j : ℕ). picture j (tabulate (j * j) (module_of j (halves t)))) i ∙ ap (picture k) c in
+      = e ∙ ap₂ (λ (j : ℕ) (x : List ℕ). tabulate j (module_of side x)) l hs in
+      let c : tabulate (k * k) (module_of k (halves t)) ≡ i = ap (λ (x : List ℕ). tabulate (k * k) (module_of k (halves x))) s ∙ scan_picture k i r rest in
+      let v : picture side g' ≡ picture k i = ap (picture side) a ∙ ap (λ (j : ℕ). picture j (tabulate (j * j) (module_of j (halves t)))) j ∙ ap (picture k) c in
       let y : b ≡ true
-      = m ∙ ap (begins_with t) (said_part s ∙ v) ∙ ap (λ (x : List ℕ). same (take (length (picture k h)) x) (picture k h)) r
-      ∙ ap (λ (x : List ℕ). same x (picture k h)) (take-append_seam (picture k h) rest) ∙ same_refl (picture k h) in
-      let x : ◌≡◌ {A = ℕ} (one true) (one false) = ap one (sym y ∙ q) in omega arith)
+      = m ∙ ap (begins_with t) (q ∙ v) ∙ ap (λ (x : List ℕ). same (take (length (picture k i)) x) (picture k i)) s
+      ∙ ap (λ (x : List ℕ). same x (picture k i)) (take-append_seam (picture k i) rest) ∙ same_refl (picture k i) in
+      let x : ◌≡◌ {A = ℕ} (one true) (one false) = ap one (sym y ∙ n) in omega arith)
 
 pub begins_end : {t : List ℕ} {side end : ℕ} {g : List ℕ} → Begins t side end g → Begins t side end g × (end ≤ length t)
 begins_end {t} {side} {end} {g} (drawn rest d e q) =

@@ -7,6 +7,7 @@ ghost use Rattle.terminal.specs.Adds.{Adds, HasRoom};
 use types::QrCodeEcc;
 
 // A text that stands at the start of lent memory.
+#[derive(Drop)]
 pub struct Text<'a> {
     memory: &'a mut [u8],
     len: usize,

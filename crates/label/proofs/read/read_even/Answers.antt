@@ -7,8 +7,8 @@ use Rattle.label.proofs.read.read_even.Goals as goal
 pub overflow_mul-area : goal.overflow_mul-area
 overflow_mul-area g c = record { fits = search (area_fits, rules) }
 
-pub slice_bounds-read_modules-end : goal.slice_bounds-read_modules-end
-slice_bounds-read_modules-end g c = search (area_in, rules)
+pub slice_bounds-modules-end : goal.slice_bounds-modules-end
+slice_bounds-modules-end g c = search (area_in, rules)
 
-pub read_modules-requires : goal.read_modules-requires
-read_modules-requires g c = (search rules, search (part_in, rules))
+pub rows-requires : goal.rows-requires
+rows-requires g c = (search rules, search (part_in, rules))
