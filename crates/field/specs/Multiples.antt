@@ -200,11 +200,20 @@ get_d_step_in low high r b j h =
     ∙ get_d_tabulate 32 (stepped low high r (bit_xor b (get_or r 0 0))) j 0 h
 
 -- the code's loop ends before the last place, which stays
-pub front_step_in : (low high r : List ℕ) (b : ℕ) → front 32 (step_in low high r b) r ≡ step_in low high r b
+front_step_in : (low high r : List ℕ) (b : ℕ) → front 32 (step_in low high r b) r ≡ step_in low high r b
 unfolding step_in
 front_step_in low high r b =
     let t = tabulate 32 (stepped low high r (bit_xor b (get_or r 0 0))) in
     ap (λ (l : List ℕ). l ++ drop 32 r) (take_at t (drop 32 r) 32 (length_tabulate 32 (stepped low high r (bit_xor b (get_or r 0 0)))))
+
+-- nor does it matter what stood before it, where the last place is the same
+pub front_step_moved : (low high r q : List ℕ) (b : ℕ) → length q ≡ length r → ((k d : ℕ) → 32 ≤ k → get_or q k d ≡ get_or r k d)
+    → front 32 (step_in low high r b) q ≡ step_in low high r b
+front_step_moved low high r q b long same =
+    ap (λ (l : List ℕ). take 32 (step_in low high r b) ++ l)
+    (ext_get_or 0 (drop 32 q) (drop 32 r) (omega (arith, length-drop 32 q, length-drop 32 r))
+    (λ j h. get_or-drop 32 q j 0 ∙ same (32 + j) 0 (omega arith) ∙ sym (get_or-drop 32 r j 0)))
+    ∙ front_step_in low high r b
 
 -- where the row of a byte's high half begins
 pub high_row : (f : ℕ) → f < 256 → f / 16 * 32 < 512

@@ -28,6 +28,7 @@ fn times_root(wide: &mut [u8; 33], root: u8)
     requires { get_or wide.old 32 0 ≡ 0 }
     ensures { wide.new ≡ times_root root wide.old }
 {
+    // By index: each coefficient takes in the one behind it.
     for j in 0usize..32 {
         wide[j] = reed_solomon_multiply(wide[j], root) ^ wide[j + 1];
     }
@@ -86,6 +87,7 @@ fn next_row(rows: &mut [u8; 512], base: &[u8; 32], n: usize)
     let mut half: [u8; 32] = [0; 32];
     half.copy_from_slice(&rows[at..at + 32]);
     let odd = (n % 2) as u8;
+    // By index: of what a `zip` over `iter_mut` writes, the proof would know nothing.
     for j in 0usize..32 {
         rows[n * 32 + j] = double(half[j]) ^ odd * base[j];
     }
@@ -112,8 +114,10 @@ fn divide_step(rest: &mut [u8; 33], low: &[u8; 512], high: &[u8; 512], b: u8)
     let factor = (b ^ rest[0]) as usize;
     let l = factor % 16 * 32;
     let h = factor / 16 * 32;
+    rest.copy_within(1..33, 0);
+    // By index: of what a `zip` over `iter_mut` writes, the proof would know nothing.
     for j in 0usize..32 {
-        rest[j] = rest[j + 1] ^ low[l + j] ^ high[h + j];
+        rest[j] ^= low[l + j] ^ high[h + j];
     }
 }
 

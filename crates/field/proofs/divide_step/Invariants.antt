@@ -1,11 +1,10 @@
 -- `field::divide_step` meets its contract.
 -- Assumes nothing.
-use Prim.Native.Nat.{◌-◌, ◌≤◌, ◌<◌}
+use Prim.Native.Nat.{◌<◌}
 use mathlib.Core.Path.{◌≡◌}
-use lib.ListN.{length}
 use Rattle.laws.specs.Front.{front}
 use Rattle.field.specs.Multiples.{step_in}
 use Rattle.field.proofs.divide_step.Given as goal
 
 abbrev pub invariant-loop-j : goal.invariant-loop-j
-invariant-loop-j l = (l.factor < 256) × (l.rest ≡ front l.j (step_in l.low l.high l.initial.rest l.b) l.initial.rest)
+invariant-loop-j l = (l.factor < 256) × (l.rest ≡ front l.j (step_in l.low l.high l.fn.rest l.b) l.initial.rest)

@@ -1,8 +1,8 @@
 -- `field::next_row` meets its contract.
 -- Assumes nothing.
-use Prim.Native.Nat.{◌+◌, ◌-◌, ◌*◌, ◌≤◌}
+use Prim.Native.Nat.{◌+◌, ◌*◌}
 use mathlib.Core.Path.{◌≡◌}
-use lib.ListN.{length, take}
+use lib.ListN.{take}
 use Rattle.field.specs.Multiples.{multiples_of}
 use Rattle.field.proofs.next_row.Given as goal
 

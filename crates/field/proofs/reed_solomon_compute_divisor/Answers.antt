@@ -1,11 +1,10 @@
 -- `field::reed_solomon_compute_divisor` meets its contract.
 -- Assumes nothing.
 use Prim.Native.Nat.{ℕ}
-use mathlib.Core.Path.{◌≡◌, refl, sym, ap, ◌∙◌}
+use mathlib.Core.Path.{◌≡◌, refl, ap, ◌∙◌}
 use native.Mathlib.Omega.{arith}
 use Rattle.standard.specs.Field.{times, power}
-use Rattle.field.specs.Generator.{times_root, length_divisor, power_suc, wide_at, wide_start, wide_length, wide_last, wide_turn, wide_end}
-use Rattle.std.proofs.Common.{rules}
+use Rattle.field.specs.Generator.{times_root, power_suc, wide_at, wide_start, wide_length, wide_last, wide_turn, wide_end}
 use lib.ListN.{length, length-take, length-drop}
 use Rattle.field.proofs.reed_solomon_compute_divisor.Goals as goal
 

@@ -1,6 +1,5 @@
 -- `field::reed_solomon_compute_divisor` meets its contract.
 -- Assumes nothing.
-use Prim.Native.Nat.{◌-◌, ◌≤◌}
 use mathlib.Core.Path.{◌≡◌}
 use Rattle.standard.specs.Field.{power}
 use Rattle.field.specs.Generator.{wide_at}

@@ -1,9 +1,7 @@
 -- `field::reed_solomon_compute_remainder` meets its contract.
 -- Assumes nothing.
-use Prim.Native.Nat.{ℕ, ◌-◌}
-use mathlib.Core.Path.{◌≡◌, ap, ◌∙◌}
+use mathlib.Core.Path.{ap, ◌∙◌}
 use native.Mathlib.Omega.{arith}
-use Rattle.std.proofs.Common.{rules}
 use lib.ListN.{length, take}
 use lib.Seq.{take_all}
 use Rattle.standard.specs.Field.{remainder}

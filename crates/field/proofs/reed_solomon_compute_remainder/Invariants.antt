@@ -1,8 +1,6 @@
 -- `field::reed_solomon_compute_remainder` meets its contract.
 -- Assumes nothing.
-use Prim.Native.Nat.{◌-◌, ◌≤◌}
-use mathlib.Core.Path.{◌≡◌}
-use lib.ListN.{length, take}
+use lib.ListN.{take}
 use Rattle.standard.specs.Field.{remainder}
 use Rattle.field.specs.Multiples.{Alike}
 use Rattle.field.proofs.reed_solomon_compute_remainder.Given as goal

@@ -1,6 +1,6 @@
 -- `field::times_root` meets its contract.
 -- Assumes nothing.
-use Prim.Native.Nat.{◌-◌, ◌≤◌}
+use Prim.Native.Nat.{◌≤◌}
 use mathlib.Core.Path.{◌≡◌}
 use Rattle.field.specs.Generator.{times_root}
 use Rattle.laws.specs.Front.{front}
