@@ -53,13 +53,20 @@ fn mask_rows(rows: &mut [u8], size: usize, mask: Mask)
     }
 }
 
-// Lays the worked out rows over as many modules. A data module is inverted where invert is 1, a function module never is.
+// A data module is inverted where invert is 1, a function module never is.
+fn flipped(invert: u8, v: u8) -> u8
+    ensures { result ≡ inverted invert v }
+{
+    if v < 2 { v ^ invert } else { v }
+}
+
+// Lays the worked out rows over as many modules.
 fn mask_band(grid: &mut [u8], rows: &[u8])
     requires { length grid.old ≤ length rows.now }
     ensures { grid.new ≡ each (λ k v. inverted (get_or rows.now k 0) v) grid.old }
 {
     for (k, m) in grid.iter_mut().enumerate() {
-        *m = if *m < 2 { *m ^ rows[k] } else { *m };
+        *m = flipped(rows[k], *m);
     }
 }
 

@@ -1,5 +1,5 @@
 // The way back: level and mask from the first copy of the format bits, and codewords along the zigzag, without the mask.
-ghost use Rattle.std.specs.Prelude.{◌≡◌, ◌*◌, ◌<◌, ◌≤◌, length};
+ghost use Rattle.std.specs.Prelude.{◌≡◌, cond, ◌*◌, ◌<◌, ◌≤◌, ltb, length};
 ghost use Rattle.standard.specs.Sizes.{side};
 ghost use Rattle.laws.specs.Grid.{Square};
 ghost use Rattle.types.specs.Numbers.{level_of};
@@ -86,13 +86,20 @@ fn read_bit(grid: &[u8], out: &mut [u8], at: usize, i: usize) -> usize
     }
 }
 
-// Copies the data modules of grid into work. A function module of work stays.
+// A function module stays, a data module becomes d.
+fn taken(c: u8, d: u8) -> u8
+    ensures { result ≡ cond (ltb c 2) d c }
+{
+    if c < 2 { d } else { c }
+}
+
+// Copies the data modules of grid into work.
 fn copy_data(grid: &[u8], work: &mut [u8])
     requires { length grid.now ≡ length work.old }
     ensures { work.new ≡ copied grid.now work.old }
 {
     for (k, m) in work.iter_mut().enumerate() {
-        *m = if *m < 2 { grid[k] } else { *m };
+        *m = taken(*m, grid[k]);
     }
 }
 
