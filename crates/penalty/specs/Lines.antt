@@ -3,10 +3,11 @@
 use Rattle.std.specs.Prelude.{◌≡◌, refl, List, ℕ, zero, suc, ◌+◌, ◌*◌, ◌%◌, ◌<◌, length, get_or}
 use Rattle.std.proofs.Common.{sym, ap, ◌∙◌, mod-lt, zero-lt-suc, add_comm, arith}
 use Rattle.std.proofs.Math.Arith.{digits_lt}
-use Rattle.standard.specs.Numbers.{from, tabulate}
-use Rattle.standard.specs.Penalty.{module_of, row, column}
+use Rattle.standard.specs.Numbers.{from, sum, tabulate}
+use Rattle.standard.specs.Penalty.{module_of, row, column, line_cost}
 use Rattle.laws.specs.Tests.{split}
 use Rattle.laws.specs.Lists.{length_tabulate, get_d_tabulate, from_cong, past}
+use Rattle.laws.specs.Sums.{sum_cong}
 use Rattle.laws.specs.Each.{each}
 use Rattle.penalty.specs.Scan.{Modules}
 use Rattle.penalty.specs.Windows.{is}
@@ -57,3 +58,16 @@ in_row s y n e hy i hi = omega (arith, digits_lt hy hi)
 
 pub in_column : (s x n : ℕ) → n ≡ s * s → x < s → (i : ℕ) → i < s → x + i * s < n
 in_column s x n e hx i hi = omega (arith, digits_lt hi hx)
+
+-- the columns begin one module apart
+pub in_columns : (s x n : ℕ) → n ≡ s * s → x < s → (i : ℕ) → i < s → x * 1 + i * s < n
+in_columns s x n e hx i hi = omega (arith, in_column s x n e hx i hi)
+
+pub rows_sum : (s : ℕ) (g : List ℕ) → sum (tabulate s (λ k. line_cost s (tabulate s (along g (k * s) 1)))) ≡ sum (tabulate s (λ y. line_cost s (row s (colours g) y)))
+rows_sum s g = sum_cong (λ k. line_cost s (tabulate s (along g (k * s) 1))) (λ y. line_cost s (row s (colours g) y)) 0 s (λ k o l. ap (line_cost s) (row_along s g k))
+
+pub columns_sum : (s : ℕ) (g : List ℕ)
+    → sum (tabulate s (λ k. line_cost s (tabulate s (along g (k * 1) s)))) ≡ sum (tabulate s (λ x. line_cost s (column s (colours g) x)))
+columns_sum s g =
+    sum_cong (λ k. line_cost s (tabulate s (along g (k * 1) s))) (λ x. line_cost s (column s (colours g) x)) 0 s
+    (λ k o l. ap (line_cost s) (ap (λ (n : ℕ). tabulate s (along g n s)) (is (k * 1) k (omega arith)) ∙ column_along s g k))

@@ -42,14 +42,5 @@ fn same_color(a: u8, b: u8, c: u8, d: u8) -> u32
     ensures { (result ≡ one (eqb (a % 2) (b % 2) && (eqb (a % 2) (c % 2) && eqb (a % 2) (d % 2)))) × (result ≤ 1) }
 {
     let color = a % 2;
-    if color != b % 2 {
-        return 0;
-    }
-    if color != c % 2 {
-        return 0;
-    }
-    if color != d % 2 {
-        return 0;
-    }
-    1
+    (color == b % 2 && color == c % 2 && color == d % 2) as u32
 }

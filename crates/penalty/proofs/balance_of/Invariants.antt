@@ -1,4 +1,4 @@
--- `penalty::balance_of` meets its contract. No number passed balances dark and light.
+-- `penalty::balance_of` meets its contract. No number before k is enough.
 -- Assumes nothing.
 use lib.Dec.{leb}
 use Rattle.standard.specs.Penalty.{balance}
@@ -9,6 +9,3 @@ use Rattle.penalty.proofs.balance_of.Given as goal
 
 abbrev pub invariant-loop-k : goal.invariant-loop-k
 invariant-loop-k l = (l.k ≤ 10) × (balance l.dark l.total ≡ least l.k (10 - l.k) (λ j. leb l.off ((j + 1) * l.total)))
-
-abbrev pub decreases-loop-k : goal.decreases-loop-k
-decreases-loop-k l = 10 - l.k

@@ -1,12 +1,12 @@
--- `penalty::dark_modules` meets its contract. The loop adds up the colours passed.
+-- `penalty::dark_modules` meets its contract. The loop adds up the modules passed.
 -- Assumes nothing.
 use Rattle.laws.specs.Each.{each}
 use Rattle.laws.specs.Sums.{sum_next, sum_end}
 use Rattle.std.proofs.Common.{rules}
 use Rattle.penalty.proofs.dark_modules.Goals as goal
 
-pub loop-i-preserved : goal.loop-i-preserved
-loop-i-preserved c = (search rules, search rules, search (sum_next, rules), search rules)
+pub loop-byte-preserved : goal.loop-byte-preserved
+loop-byte-preserved c = (search rules, search (sum_next, rules), search rules)
 
 pub returns : goal.returns
 unfolding each

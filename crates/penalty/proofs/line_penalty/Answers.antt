@@ -27,11 +27,11 @@ overflow_add-run c = omega arith
 pub overflow_add-result : goal.overflow_add-result
 overflow_add-result c = omega (arith, scan_le _ _ _ _ _ _ _ c.loop-i.invariant.1 (omega arith) (omega arith))
 
-pub push-runhistory-requires : goal.push-runhistory-requires
-push-runhistory-requires c = omega arith
+pub add_history-requires : goal.add_history-requires
+add_history-requires c = omega arith
 
 pub light_patterns-requires : goal.light_patterns-requires
-light_patterns-requires c = second_fits _ _ _ _ c.push-runhistory.ensures (omega arith)
+light_patterns-requires c = second_fits _ _ _ _ c.add_history.ensures (omega arith)
 
 pub overflow_add-result-else-color-runcolor : goal.overflow_add-result-else-color-runcolor
 overflow_add-result-else-color-runcolor c = omega (arith, scan_le _ _ _ _ _ _ _ c.loop-i.invariant.1 (omega arith) (omega arith))
@@ -50,7 +50,7 @@ loop-i-preserved c =
       | else-color-runcolor w ↦ (
         omega arith,
         rw (w.result-is, w.runcolor-is, w.run-is, w.runhistory-is)
-            (scan_other _ _ _ _ _ _ _ _ _ _ _ l.invariant.1 (omega arith) v w.if-color-runcolor.false w.push-runhistory.ensures w.light_patterns.ensures.0 refl),
+            (scan_other _ _ _ _ _ _ _ _ _ _ _ l.invariant.1 (omega arith) v w.if-color-runcolor.false w.add_history.ensures w.light_patterns.ensures.0 refl),
       )
     ]
 
