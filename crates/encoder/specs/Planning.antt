@@ -1,6 +1,6 @@
 -- The order of refusals 1 to 7, the level that the data get, and what a plan says of its records.
 -- Assumes nothing.
-use Prim.Native.Nat.{ℕ, zero, suc, ◌+◌, ◌*◌, ◌/◌, ◌^◌, ◌≤◌, ◌<◌}
+use Prim.Native.Nat.{ℕ, zero, suc, ◌+◌, ◌*◌, ◌^◌, ◌≤◌, ◌<◌}
 use Rattle.std.specs.Prelude.{Bool, true, false, cond, ◌&&◌, not, List, ◌≡◌, T, leb, length}
 use Rattle.std.proofs.Math.Path.{refl}
 use Rattle.std.proofs.Common.{ap, ◌∙◌, arith, add-one}
@@ -9,7 +9,7 @@ use Rattle.standard.specs.Numbers.{every}
 use Rattle.standard.specs.Sizes.{data_codewords, capacity}
 use Rattle.standard.specs.Segments.{Part, segments_of, good_part, first_bad}
 use Rattle.standard.specs.Plan.{refusal, Plan, unplanned, boosted, plan_fit, plan}
-use Rattle.segments.specs.Records.{parts_of, parts_length, all_good}
+use Rattle.segments.specs.Records.{all_good}
 use Rattle.counts.specs.Ranges.{PairRange, pair_range}
 use Rattle.laws.specs.Tests.{and_first, and_second}
 
@@ -106,8 +106,8 @@ module _ (first last : ℕ) (f : bad_range first last ≡ false) where
   range_high = leb-true last 40 (and_second (leb first last) (leb last 40) (and_second (leb 1 first) (leb first last && leb last 40) inside))
 
 -- no record is bad
-pub none_bad : (text ns : List ℕ) (i : ℕ) → i ≡ first_bad text (parts_of ns) → length ns / 4 ≤ i → T (every (good_part text) (parts_of ns))
-none_bad text ns i e h = all_good text (parts_of ns) (omega (arith, parts_length ns))
+pub none_bad : (text : List ℕ) (rs : List Part) → first_bad text rs ≡ length rs → T (every (good_part text) rs)
+none_bad text rs e = all_good text rs (omega arith)
 
 -- ---- data bits
 

@@ -12,7 +12,6 @@ ghost use Rattle.encoder.specs.Fitting.{fit_at};
 ghost use Rattle.encoder.specs.Planning.{final_level};
 
 use super::{Refusal, Settings};
-use segments::TotalBits;
 use types::{QrCodeEcc, Version};
 
 // The version and level of a label, and the bits that its records take.
@@ -38,15 +37,13 @@ fn fit_at(text: &[u8], records: &[u64], ver: Version, ecl: QrCodeEcc) -> Result<
     ensures { result ≡ fit_at (level_of ecl) (segments_of text.now (parts_of records.now)) ver.value }
 {
     let capacity = capacity_bits(ver, ecl);
-    match segments::records::get_total_bits(text, records, ver) {
-        TotalBits::Bits(bits) => {
-            if capacity < bits {
-                return Err(Refusal::DataOverCapacity { bits, capacity });
-            }
-            Ok(bits)
-        }
-        TotalBits::TooLong => Err(Refusal::SegmentTooLong),
+    let bits = segments::records::get_total_bits(text, records, ver).ok_or(
+        Refusal::SegmentTooLong,
+    )?;
+    if capacity < bits {
+        return Err(Refusal::DataOverCapacity { bits, capacity });
     }
+    Ok(bits)
 }
 
 // Increases the error correction level while the data still fits in the current version number.
@@ -107,9 +104,8 @@ pub(crate) fn make_plan(settings: Settings, text: &[u8], records: &[u64]) -> Res
     if 2048 < n {
         return Err(Refusal::Records(n));
     }
-    let bad = segments::records::first_bad(text, records);
-    if bad < n {
-        return Err(Refusal::Record(bad));
+    if let Some(i) = segments::records::first_bad(text, records) {
+        return Err(Refusal::Record(i));
     }
     plan_fit(settings, text, records)
 }

@@ -1,5 +1,6 @@
 -- `encoder::plan::make_plan` meets its contract.
 -- Assumes nothing.
+use native.Mathlib.Omega.{arith}
 use Rattle.std.proofs.Common.{rules}
 use Rattle.types.specs.Laws.{level_le}
 use Rattle.types.specs.Masks.{mask_number_le}
@@ -10,11 +11,11 @@ use Rattle.encoder.proofs.plan.make_plan.Goals as goal
 pub returns-then-n-gt2048 : goal.returns-then-n-gt2048
 returns-then-n-gt2048 c = search (plan_4, range_good, level_le, mask_number_le, parts_length, rules)
 
-pub returns-then-bad-n : goal.returns-then-bad-n
-returns-then-bad-n c = search (plan_5, range_good, level_le, mask_number_le, parts_length, rules)
+pub returns-in-Some : goal.returns-in-Some
+returns-in-Some c = search (plan_5, range_good, level_le, mask_number_le, parts_length, rules)
 
 pub plan_fit-requires : goal.plan_fit-requires
-plan_fit-requires c = (search rules, search (none_bad, rules))
+plan_fit-requires c = (omega arith, none_bad _ _ c.in_default.ensures)
 
 pub returns : goal.returns
 returns c = search (plan_6, range_good, level_le, mask_number_le, parts_length, rules)
