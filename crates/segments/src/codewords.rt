@@ -50,7 +50,7 @@ fn add_terminator(bb: &mut [u8], len: usize, datacapacitybits: usize) -> usize
 }
 
 // Pad byte i.
-fn pad_byte(i: usize) -> u8
+pub fn pad_byte(i: usize) -> u8
     ensures { result ≡ pad_byte i }
 {
     if i % 2 == 0 { 0xEC } else { 0x11 }
