@@ -109,16 +109,14 @@ take_whole : (xs : List ℕ) (n : ℕ) → n ≡ length xs → take n xs ≡ xs
 take_whole xs n e = ap₂ (λ (k : ℕ) (t : List ℕ). take k t) e (sym (append-nil xs)) ∙ take-append_seam xs []
 
 -- two parts of one list, lent one after the other
-pub two_parts : (f g : ℕ → ℕ → ℕ) (d : ℕ) (o A Z : List ℕ) → A ≡ each f (take (d - 0) o)
-    → Z ≡ each g (take (length (A ++ drop (d - 0) o) - d) (drop d (A ++ drop (d - 0) o))) → d ≤ length o
-    → take d (A ++ drop (d - 0) o) ++ (Z ++ drop (length (A ++ drop (d - 0) o) - d) (drop d (A ++ drop (d - 0) o))) ≡ each f (take d o) ++ each g (drop d o)
+pub two_parts : (f g : ℕ → ℕ → ℕ) (d : ℕ) (o A Z : List ℕ) → A ≡ each f (take d o)
+    → Z ≡ each g (take (length (A ++ drop d o) - d) (drop d (A ++ drop d o))) → d ≤ length o
+    → take d (A ++ drop d o) ++ (Z ++ drop (length (A ++ drop d o) - d) (drop d (A ++ drop d o))) ≡ each f (take d o) ++ each g (drop d o)
 two_parts f g d o A Z e h l =
-    let z : d - 0 ≡ d = omega arith in
-    let e_a : A ≡ each f (take d o) = e ∙ ap (λ (k : ℕ). each f (take k o)) z in
-    let la : length A ≡ d = ap length e_a ∙ length_each f (take d o) ∙ length-take d o ∙ omega arith in
-    let t : take d (A ++ drop (d - 0) o) ≡ A = ap (λ (k : ℕ). take k (A ++ drop (d - 0) o)) (sym la) ∙ take-append_seam A (drop (d - 0) o) in
-    let r : drop d (A ++ drop (d - 0) o) ≡ drop d o = ap (λ (k : ℕ). drop k (A ++ drop (d - 0) o)) (sym la) ∙ drop-append_seam A (drop (d - 0) o) ∙ ap (λ (k : ℕ). drop k o) z in
-    let n : length (A ++ drop (d - 0) o) - d ≡ length (drop d o) = omega (arith, length-append A (drop (d - 0) o), length-drop (d - 0) o, length-drop d o) in
+    let la : length A ≡ d = ap length e ∙ length_each f (take d o) ∙ length-take d o ∙ omega arith in
+    let t : take d (A ++ drop d o) ≡ A = ap (λ (k : ℕ). take k (A ++ drop d o)) (sym la) ∙ take-append_seam A (drop d o) in
+    let r : drop d (A ++ drop d o) ≡ drop d o = ap (λ (k : ℕ). drop k (A ++ drop d o)) (sym la) ∙ drop-append_seam A (drop d o) in
+    let n : length (A ++ drop d o) - d ≡ length (drop d o) = omega (arith, length-append A (drop d o), length-drop d o) in
     let e_z : Z ≡ each g (drop d o) = h ∙ ap₂ (λ (k : ℕ) (s : List ℕ). each g (take k s)) n r ∙ ap (each g) (take_whole (drop d o) (length (drop d o)) refl) in
-    let q : drop (length (A ++ drop (d - 0) o) - d) (drop d (A ++ drop (d - 0) o)) ≡ [] = ap₂ (λ (k : ℕ) (s : List ℕ). drop k s) n r ∙ drop_of_length-le (drop d o) {i = length (drop d o)} (omega arith) in
-    ap₂ (λ (a b : List ℕ). a ++ b) (t ∙ e_a) (ap₂ (λ (a b : List ℕ). a ++ b) e_z q ∙ append-nil (each g (drop d o)))
+    let q : drop (length (A ++ drop d o) - d) (drop d (A ++ drop d o)) ≡ [] = ap₂ (λ (k : ℕ) (s : List ℕ). drop k s) n r ∙ drop_of_length-le (drop d o) {i = length (drop d o)} (omega arith) in
+    ap₂ (λ (a b : List ℕ). a ++ b) (t ∙ e) (ap₂ (λ (a b : List ℕ). a ++ b) e_z q ∙ append-nil (each g (drop d o)))

@@ -9,8 +9,7 @@ ghost use Rattle.standard.specs.Blocks.{all_words};
 ghost use Rattle.types.specs.Numbers.{level_of};
 ghost use Rattle.blocks.specs.Shape.{data_in};
 ghost use Rattle.blocks.specs.Undo.{data_of};
-ghost use Rattle.blocks.specs.Checks.{rests_in, checks_in};
-ghost use Rattle.blocks.specs.Words.{written_in};
+ghost use Rattle.blocks.specs.Checks.{checks_in};
 ghost use Rattle.blocks.specs.SharedOut.{SharedOut};
 
 use field::Divisor;
@@ -24,9 +23,13 @@ pub fn add_ecc_and_interleave(ver: Version, ecl: QrCodeEcc, data: &[u8], out: &m
     ensures { out.new ≡ all_words ver.value (level_of ecl) «data».now }
 {
     let shares = share_out(ver, ecl);
-    let mut checks: [u8; 2430] = [0; 2430];
-    let total = shares.numblocks * shares.blockecclen;
-    write_all(shares, data, &mut checks[0..total], out);
+    let mut room: [u8; 2430] = [0; 2430];
+    let checks = &mut room[..shares.numblocks * shares.blockecclen];
+    all_checks(shares, data, checks);
+    shares.interleave(data, &mut out[..data.len()]);
+    shares
+        .of_checks()
+        .interleave(checks, &mut out[data.len()..]);
 }
 
 // Puts into `out` the data codewords, taken out of all codewords: the way back.
@@ -52,42 +55,22 @@ fn share_out(ver: Version, ecl: QrCodeEcc) -> Shares
     }
 }
 
-// Puts the check bytes of all blocks into `checks`, and all codewords into `out`.
-fn write_all(shares: Shares, data: &[u8], checks: &mut [u8], out: &mut [u8])
-    requires { (length «data».now ≡ data_in shares.numblocks shares.shortdatlen shares.numshortblocks) × (length checks.old ≡ shares.numblocks * shares.blockecclen) × (length out.old ≡ data_in shares.numblocks shares.shortdatlen shares.numshortblocks + shares.blockecclen * shares.numblocks) }
-    ensures { out.new ≡ written_in shares.numblocks shares.shortdatlen shares.numshortblocks shares.blockecclen «data».now (checks_in shares.blockecclen shares.shortdatlen shares.numshortblocks «data».now shares.numblocks) out.old }
-{
-    all_checks(shares, data, checks);
-    let datalen = data.len();
-    shares.interleave(data, &mut out[0..datalen]);
-    shares.of_checks().interleave(checks, &mut out[datalen..]);
-}
-
-// Puts the check bytes of all blocks into `out`, one block after the other.
+// Puts the check bytes of all blocks into `out`, one block after the other: what the divisor leaves of each.
 fn all_checks(shares: Shares, data: &[u8], out: &mut [u8])
     requires { (length «data».now ≡ data_in shares.numblocks shares.shortdatlen shares.numshortblocks) × (length out.old ≡ shares.numblocks * shares.blockecclen) }
     ensures { out.new ≡ checks_in shares.blockecclen shares.shortdatlen shares.numshortblocks «data».now shares.numblocks }
 {
     let mut room: [u8; 30] = [0; 30];
-    let rsdiv = &mut room[0..shares.blockecclen];
+    let rsdiv = &mut room[..shares.blockecclen];
     field::reed_solomon_compute_divisor(rsdiv);
-    block_checks(shares, data, &Divisor::new(rsdiv), out);
-}
-
-// Puts what the divisor leaves of each block into `out`, one block after the other.
-fn block_checks(shares: Shares, data: &[u8], divisor: &Divisor, out: &mut [u8])
-    requires degree { length divisor.now.coefficients.now ≡ shares.blockecclen }
-    requires lengths { (length «data».now ≡ data_in shares.numblocks shares.shortdatlen shares.numshortblocks) × (length out.old ≡ shares.numblocks * shares.blockecclen) }
-    ensures { out.new ≡ rests_in divisor.now.coefficients.now shares.shortdatlen shares.numshortblocks «data».now shares.numblocks }
-{
+    let divisor = Divisor::new(rsdiv);
     for i in 0..shares.numblocks {
         let start = shares.block_start(i);
         let end = start + shares.block_length(i);
         let at = i * shares.blockecclen;
-        let block = &data[start..end];
         field::reed_solomon_compute_remainder(
-            block,
-            divisor,
+            &data[start..end],
+            &divisor,
             &mut out[at..at + shares.blockecclen],
         );
     }

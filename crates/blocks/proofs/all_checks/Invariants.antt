@@ -1,11 +1,11 @@
--- `blocks::block_checks` meets its contract.
+-- `blocks::all_checks` meets its contract.
 -- Assumes nothing.
 use Prim.Native.Nat.{◌*◌}
 use mathlib.Core.List.{◌++◌}
 use mathlib.Core.Path.{◌≡◌}
 use lib.ListN.{length, drop}
 use Rattle.blocks.specs.Checks.{rests_in}
-use Rattle.blocks.proofs.block_checks.Given as goal
+use Rattle.blocks.proofs.all_checks.Given as goal
 
 abbrev pub invariant-loop-i : goal.invariant-loop-i
 invariant-loop-i l =
