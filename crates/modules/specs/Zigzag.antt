@@ -98,11 +98,12 @@ walk_done side f p i g h e l m = ap list_of (rw (le_antisymm l m) at e)
 
 -- a turn of each of the three loops, over j, over v and over p
 module _ (side : ℕ) (f : ℕ → Laid → Laid) (s t u : Laid) where
-  pub cell_next : (p v j x y : ℕ) → t ≡ walk side f ((p * side + v) * 2) j s → u ≡ f (y * side + (x - j)) t
-      → x ≡ right side p → y ≡ height side p v → v < side → j < 2 → u ≡ walk side f ((p * side + v) * 2) (j + 1) s
+  pub cell_next : (p v j x y at : ℕ) → t ≡ walk side f ((p * side + v) * 2) j s → u ≡ f (at - j) t → at ≡ y * side + x
+      → x ≡ right side p → 0 < x → y ≡ height side p v → v < side → j < 2 → u ≡ walk side f ((p * side + v) * 2) (j + 1) s
   unfolding walk
-  cell_next p v j x y e d hx hy hv hj =
-      d ∙ rw (add-one, hx, hy) (ap₂ f (sym (cell_of side p v j hv hj)) e)
+  cell_next p v j x y at e d is hx some hy hv hj =
+      let place : at - j ≡ height side p v * side + (right side p - j) = rw (← hx, ← hy) (omega arith) in
+      d ∙ rw add-one (ap₂ f (place ∙ sym (cell_of side p v j hv hj)) e)
 
   pub row_next : (p v : ℕ) → t ≡ walk side f (p * side * 2) (v * 2) s → u ≡ walk side f ((p * side + v) * 2) 2 t
       → u ≡ walk side f (p * side * 2) ((v + 1) * 2) s

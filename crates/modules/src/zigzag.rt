@@ -37,9 +37,9 @@ pub(crate) fn zigzag<F: Fn(&mut [u8], usize, usize) -> usize>(
     for p in 0..(size - 1) / 2 {
         let x = right_column(size, p);
         for vert in 0..size {
-            let y = row_of(size, p, vert);
+            let at = patterns::place(size, x, row_of(size, p, vert));
             for j in 0..2 {
-                i = visit(bytes, patterns::place(size, x - j, y), i);
+                i = visit(bytes, at - j, i);
             }
         }
     }

@@ -1,7 +1,7 @@
 -- `zigzag` walks along the path.
 -- Assumes nothing.
-use Rattle.std.proofs.Common.{rules, ap, ◌∙◌, ℕ}
-use Rattle.modules.specs.Zigzag.{Laid.laid, walk_none, pair_none, cell_next, walk_end, row_next, row_end, pair_next, walk_done}
+use Rattle.std.proofs.Common.{rules}
+use Rattle.modules.specs.Zigzag.{walk_none, pair_none, cell_next, walk_end, row_next, row_end, pair_next, walk_done}
 use Rattle.modules.proofs.zigzag.zigzag.Goals as goal
 
 pub loop-p-init : goal.loop-p-init
@@ -16,8 +16,8 @@ loop-j-init g c = λ f steps. search (walk_none, rules)
 pub loop-j-preserved : goal.loop-j-preserved
 loop-j-preserved g c =
     λ f steps.
-    let step = steps _ _ _ _ _ c.visit-i.ensures ∙ ap (λ (k : ℕ). f k (laid c.loop-j.bytes c.loop-j.i)) c.place.ensures.0 in
-    cell_next _ _ _ _ _ _ _ _ _ _ (c.loop-j.invariant f steps) step c.right_column-x.ensures.0 c.row_of-y.ensures.0 (search rules) c.loop-j-test.true
+    let x = c.right_column-x.ensures in
+    cell_next _ _ _ _ _ _ _ _ _ _ _ (c.loop-j.invariant f steps) (steps _ _ _ _ _ c.visit-i.ensures) c.place-at.ensures.0 x.0 x.1 c.row_of.ensures.0 (search rules) c.loop-j-test.true
 
 pub loop-vert-preserved : goal.loop-vert-preserved
 loop-vert-preserved g c =
