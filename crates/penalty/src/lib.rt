@@ -162,7 +162,11 @@ impl FinderPenalty {
     {
         let rh = self.run_history;
         let n = rh[1];
-        let core = n > 0 && rh[2] == n && rh[3] == 3 * n && rh[4] == n && rh[5] == n;
+        // Tested first, since it tells most runs apart: in one expression with the others it is slower.
+        if rh[3] != 3 * n {
+            return 0;
+        }
+        let core = n > 0 && rh[2] == n && rh[4] == n && rh[5] == n;
         (core && rh[0] >= 4 * n && rh[6] >= n) as u32
             + (core && rh[6] >= 4 * n && rh[0] >= n) as u32
     }
