@@ -19,7 +19,6 @@ ghost use Rattle.reader.specs.Told.{Tells};
 ghost use Rattle.reader.specs.Recovered.{Looks};
 ghost use Rattle.standard.specs.Encode.{zeroed};
 
-use parser::Counted;
 use types::{Mask, QrCodeEcc, Version};
 
 // Why a grid is not read.
@@ -118,28 +117,23 @@ fn tell(
     requires { (length «data».now ≡ data_codewords ver.value (level_of ecl)) }
     ensures { Tells ver.value (level_of ecl) mask.value «data».now text.old records.old result text.new records.new }
 {
-    match parser::count_all(data, ver) {
-        Counted::Bad(_) => Err(Refusal::NoLabel),
-        Counted::Read {
-            records: count,
-            text: len,
-        } => {
-            if text.len() < len {
-                return Err(Refusal::Text(len));
-            }
-            if records.len() / 4 < count {
-                return Err(Refusal::Records(count));
-            }
-            parser::write_all(data, ver, text, records);
-            Ok(Label {
-                version: ver,
-                level: ecl,
-                mask: mask,
-                records: count,
-                text: len,
-            })
-        }
+    let Ok(counts) = parser::count_all(data, ver) else {
+        return Err(Refusal::NoLabel);
+    };
+    if text.len() < counts.text {
+        return Err(Refusal::Text(counts.text));
     }
+    if records.len() / 4 < counts.records {
+        return Err(Refusal::Records(counts.records));
+    }
+    parser::write_all(data, ver, text, records);
+    Ok(Label {
+        version: ver,
+        level: ecl,
+        mask,
+        records: counts.records,
+        text: counts.text,
+    })
 }
 
 // Reads a grid at its version, level and mask.
