@@ -1,10 +1,7 @@
--- `replay_parser::main` meets its contract.
+-- `replay_parser::main` meets its contract: no more are counted than there were turns.
 -- Assumes nothing.
-use Prim.Native.Nat.{◌-◌, ◌≤◌}
+use Rattle.std.proofs.Common.{◌≤◌}
 use Rattle.replay_parser.proofs.main.Given as goal
 
-abbrev pub invariant-loop-cases : goal.invariant-loop-cases
-invariant-loop-cases l = (l.others ≤ l.cases) × (l.cases ≤ 1000000)
-
-abbrev pub decreases-loop-cases : goal.decreases-loop-cases
-decreases-loop-cases l = 1000000 - l.cases
+abbrev pub invariant-loop : goal.invariant-loop
+invariant-loop l = (l.cases ≤ l.counter) × (l.others ≤ l.counter)
