@@ -8,6 +8,9 @@ use streams::read_full;
 use terminal::text::Text;
 use terminal::{picture, scan, words};
 
+// How many bytes a text, a grid and what is drawn of it have room for.
+const ROOM: usize = 65536;
+
 // Says that a picture is none of a label.
 fn no_picture(rt: &impl Print) -> io::Result<()> {
     rt.print("label: this begins like a picture, and label draws no such picture\n")
@@ -15,9 +18,8 @@ fn no_picture(rt: &impl Print) -> io::Result<()> {
 
 // Reads the picture of a grid at the start of a text, and returns the place after it, if there is one. It is a picture if it is
 // drawn so again.
-fn picture_end(text: &[u8], side: usize, grid: &mut [u8], work: &mut [u8]) -> Option<usize>
-    requires side_value { (side ≡ side_of text.now) × (0 < side) × (side ≤ 177) × (length grid.old ≡ side * side) }
-    requires text_len_bound { (length text.now ≤ 65536) × (length work.old ≡ 65536) }
+fn picture_end(text: &[u8], side: usize, grid: &mut [u8], work: &mut [u8; ROOM]) -> Option<usize>
+    requires { (side ≡ side_of text.now) × (0 < side) × (side ≤ 177) × (length grid.old ≡ side * side) × (length text.now ≤ 65536) }
     ensures { MatchOption result (Begins text.now side 0 grid.new) (λ end. Begins text.now side end grid.new × (end ≤ length text.now)) }
 {
     let mut halves = Text::new(work);
@@ -32,39 +34,30 @@ fn picture_end(text: &[u8], side: usize, grid: &mut [u8], work: &mut [u8]) -> Op
     None
 }
 
-// Reads the label of a picture of a side.
-fn read_sided(
+// Reads the label of a picture.
+fn read_picture(
     rt: &impl Print,
     text: &[u8],
-    side: usize,
-    grid: &mut [u8],
-    work: &mut [u8],
+    grid: &mut [u8; ROOM],
+    work: &mut [u8; ROOM],
 ) -> io::Result<()>
-    requires side_value { (side ≡ side_of text.now) × (0 < side) × (side ≤ 177) × (length grid.old ≡ side * side) }
-    requires text_len_bound { (length text.now ≤ 65536) × (length work.old ≡ 65536) }
+    requires { length text.now ≤ 65536 }
 {
-    match picture_end(text, side, grid, work) {
-        Some(end) => read_grid(rt, grid, side, &text[end..]),
+    let side = match scan::side_of(text) {
+        Some(side) if side <= 177 => side,
+        _ => return no_picture(rt),
+    };
+    let area = side * side;
+    let modules = &mut grid[..area];
+    match picture_end(text, side, modules, work) {
+        Some(end) => read_grid(rt, modules, side, &text[end..]),
         None => no_picture(rt),
     }
 }
 
-// Reads the label of a picture.
-fn read_picture(rt: &impl Print, text: &[u8], grid: &mut [u8], work: &mut [u8]) -> io::Result<()>
-    requires { (length text.now ≤ 65536) × (length grid.old ≡ 65536) × (length work.old ≡ 65536) }
-{
-    match scan::side_of(text) {
-        Some(side) if side <= 177 => {
-            let area = side * side;
-            read_sided(rt, text, side, &mut grid[..area], work)
-        }
-        _ => no_picture(rt),
-    }
-}
-
 // Reads the label of rows of a side, as many as there are.
-fn read_even(rt: &impl Print, text: &[u8], side: usize, grid: &mut [u8]) -> io::Result<()>
-    requires { (0 < side) × (side ≤ 65536) × (length text.now ≤ 65536) × (length grid.old ≡ 65536) }
+fn read_even(rt: &impl Print, text: &[u8], side: usize, grid: &mut [u8; ROOM]) -> io::Result<()>
+    requires { (0 < side) × (side ≤ 65536) × (length text.now ≤ 65536) }
 {
     let lines = (text.len() + 1) / (side + 1);
     let area = lines * side;
@@ -91,8 +84,8 @@ fn uneven_line(rt: &impl Print, p: usize, side: usize) -> io::Result<()>
 }
 
 // Reads the label of lines, without the newline after the last one.
-fn read_lines(rt: &impl Print, text: &[u8], grid: &mut [u8]) -> io::Result<()>
-    requires { (length text.now ≤ 65536) × (length grid.old ≡ 65536) }
+fn read_lines(rt: &impl Print, text: &[u8], grid: &mut [u8; ROOM]) -> io::Result<()>
+    requires { length text.now ≤ 65536 }
 {
     let end = text.len();
     let side = words::place(b'\n', text).unwrap_or(end);
@@ -106,25 +99,17 @@ fn read_lines(rt: &impl Print, text: &[u8], grid: &mut [u8]) -> io::Result<()>
     }
 }
 
-// Reads what standard input holds: a picture, which begins with a colour code, or rows.
-fn read_input(rt: &impl Print, text: &[u8], grid: &mut [u8], work: &mut [u8]) -> io::Result<()>
-    requires { (length text.now ≤ 65536) × (length grid.old ≡ 65536) × (length work.old ≡ 65536) }
-{
-    match text {
-        [] => rt.print("label: there is nothing to read\n"),
-        [b'\x1b', ..] => read_picture(rt, text, grid, work),
-        _ => read_lines(rt, words::line(text), grid),
-    }
-}
-
-// Reads a label from standard input. No picture and no rows of a label take as many bytes as there is room for.
+// Reads a label from standard input: a picture, which begins with a colour code, or rows. No picture and no rows of a label take
+// as many bytes as there is room for.
 pub(crate) fn read_label(rt: &(impl Input + Print)) -> io::Result<()> {
-    let mut text = [0u8; 65536];
-    let mut grid = [0u8; 65536];
-    let mut work = [0u8; 65536];
+    let mut text = [0u8; ROOM];
+    let mut grid = [0u8; ROOM];
+    let mut work = [0u8; ROOM];
     let n = read_full(&mut rt.reader(), &mut text);
-    if n == 65536 {
-        return rt.print("label: this is longer than a label\n");
+    match &text[..n] {
+        [] => rt.print("label: there is nothing to read\n"),
+        _ if n == ROOM => rt.print("label: this is longer than a label\n"),
+        [b'\x1b', ..] => read_picture(rt, &text[..n], &mut grid, &mut work),
+        _ => read_lines(rt, words::line(&text[..n]), &mut grid),
     }
-    read_input(rt, &text[..n], &mut grid, &mut work)
 }

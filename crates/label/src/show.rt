@@ -11,7 +11,7 @@ use types::{Mask, QrCodeEcc, Version};
 
 /*---- Segments ----*/
 
-// The name of a record's kind of characters.
+// The name of a record's kind of characters. Kept (the C interface): a kind is a number in a `Record`.
 fn kind_name(kind: u64) -> &'static str {
     match kind {
         0 => "numeric",

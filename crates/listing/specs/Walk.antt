@@ -1,11 +1,11 @@
 -- The comparisons, turn by turn: what is still to be compared decides.
 -- Assumes nothing.
-use Rattle.std.specs.Prelude.{ℕ, zero, suc, ◌+◌, ◌-◌, ◌*◌, ◌/◌, ◌%◌, ◌≤◌, ◌<◌, Bool, true, false, ◌&&◌, ◌≡◌, ◌≢◌, eqb, length, drop, map}
+use Rattle.std.specs.Prelude.{ℕ, zero, suc, ◌+◌, ◌*◌, ◌/◌, ◌%◌, ◌≤◌, ◌<◌, Bool, true, false, ◌&&◌, ◌≡◌, ◌≢◌, eqb, length, drop, map}
 use Rattle.std.specs.Bool.{MatchBool}
 use Rattle.std.specs.List.{AllWithin, HoldsAt, zip}
 use mathlib.Core.List.{List, [], ◌∷◌}
 use Rattle.std.proofs.Math.Path.{refl, sym, ap, ap₂}
-use Rattle.std.proofs.Common.{◌∙◌, add-one, arith, drop_of_length-le, drop-cons, eq-eqb, ne_eqb, lt-ltb, le-ltb}
+use Rattle.std.proofs.Common.{◌∙◌, add-one, arith, drop_of_length-le, drop-cons, eq-eqb, ne_eqb}
 use Rattle.std.proofs.Math.ListN.{get_or}
 use Rattle.standard.specs.Numbers.{same}
 use Rattle.laws.specs.Lists.{unequal}
@@ -73,14 +73,6 @@ module _ (a g : List ℕ) where
   modules_all r e p = pairs_agree (λ m. 48 + m % 2) a g r e p ∙ ap (same a) (sym (modules_map g))
 
 -- ---- bytes
-
-pub hex_low : (n : ℕ) → n < 10 → 48 + n ≡ hex_digit n
-unfolding hex_digit
-hex_low n h = rw (lt-ltb n 10 h)
-
-pub hex_high : (n : ℕ) → 10 ≤ n → 97 + (n - 10) ≡ hex_digit n
-unfolding hex_digit
-hex_high n h = let e : 97 + (n - 10) ≡ 87 + n = omega arith in e ∙ rw (le-ltb n 10 h)
 
 module _ (a bs : List ℕ) where
   pub hex_long : (length a ≡ 2 * length bs → ⊥) → false ≡ same a (hex_of bs)

@@ -51,7 +51,8 @@ pub fn is_modules(line: &[u8], grid: &[u8]) -> bool
     line.len() == grid.len() && line.iter().zip(grid).all(|(c, m)| *c == b'0' + *m % 2)
 }
 
-// The hexadecimal digit of a number below 16.
+// The hexadecimal digit of a number below 16. Kept beside the one of `terminal`: to share the line, this crate would stand on those that draw.
+#[tactic(auto, unfolding(crate::specs::Shown::hex_digit))]
 fn hex(n: u8) -> u8
     requires { n < 16 }
     ensures { result ≡ hex_digit n }

@@ -9,7 +9,7 @@ ghost use Rattle.streams.specs.Lines.{line_of};
 use std::io::Read;
 
 // Reads until lent memory is full, the input ends or a read fails, and returns how many bytes stand at its start:
-// the input's next, in their order.
+// the input's next, in their order. Kept: a turn goes on by as many bytes as a read gave, and std's `read_exact` tells no count at the end.
 pub fn read_full<R: Read>(input: &mut R, buf: &mut [u8]) -> usize
     ensures bound { result ≤ length buf.new }
     ensures bytes { Consumes (R.remaining input.old) (R.remaining input.new) (take result buf.new) }

@@ -5,7 +5,8 @@ ghost use Rattle.terminal.specs.Choices.{defaults as default_options, chosen as 
 use super::words::{level_named, mask_named, switch_named, versions_named};
 use types::QrCodeEcc;
 
-// What the encoder is asked for. It refuses versions that are none; mask 8 is its automatic choice.
+// What the encoder is asked for. It refuses versions that are none. Kept (the C interface): mask 8 is the automatic choice, as
+// `encode_text` takes it.
 #[derive(Clone, Copy)]
 pub struct Options {
     pub level: QrCodeEcc,
@@ -29,6 +30,7 @@ pub fn defaults() -> Options
 }
 
 // The options after one more of them and its value; none where these are not understood.
+// Tried: a `match` on byte strings leaves 23 goals, one for each byte that may be another one.
 pub fn chosen(o: Options, name: &[u8], value: &[u8]) -> Option<Options>
     ensures { result ≡ chosen_options o name.now value.now }
 {

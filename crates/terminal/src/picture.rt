@@ -5,17 +5,6 @@ ghost use Rattle.terminal.specs.Picture.{shown as shown_at, glyph as glyph_of, c
 
 use super::text::Text;
 
-// The module at a place of the picture, whose border of four modules is light.
-fn shown(side: usize, grid: &[u8], x: usize, y: usize) -> u8
-    requires { (side ≤ 177) × (x ≤ 186) × (y ≤ 186) }
-    ensures { result ≡ shown_at side grid.now x y }
-{
-    if x < 4 || y < 4 || side + 4 <= x || side + 4 <= y {
-        return 0;
-    }
-    grid.get((y - 4) * side + (x - 4)).copied().unwrap_or(0)
-}
-
 // The character of two modules: a space, or the lower half, the upper half or the whole dark.
 fn glyph(upper: u8, lower: u8) -> &'static [u8]
     ensures value { result.now ≡ glyph_of upper lower }
@@ -29,28 +18,51 @@ fn glyph(upper: u8, lower: u8) -> &'static [u8]
     }
 }
 
-// Puts the characters that show rows y and y + 1 behind a text.
-fn characters(side: usize, grid: &[u8], y: usize, out: &mut Text)
-    requires { (side ≤ 177) × (y ≤ 185) × HasRoom out.old 555 }
-    ensures said { Adds out.old (characters_of side grid.now y (side + 8)) out.new }
-    ensures bound { out.new.len ≤ out.old.len + 555 }
-{
-    for x in 0..side + 8 {
-        let upper = shown(side, grid, x, y);
-        let lower = shown(side, grid, x, y + 1);
-        out.say(glyph(upper, lower));
-    }
+// A grid of a side that has a picture.
+#[derive(Clone, Copy)]
+struct Picture<'a> {
+    side: usize,
+    grid: &'a [u8],
+    ghost small: { side ≤ 177 },
 }
 
-// Puts the line of text that shows rows y and y + 1 behind a text.
-fn line(side: usize, grid: &[u8], y: usize, out: &mut Text)
-    requires { (side ≤ 177) × (y ≤ 185) × HasRoom out.old 569 }
-    ensures said { Adds out.old (line_of side grid.now y) out.new }
-    ensures bound { out.new.len ≤ out.old.len + 569 }
-{
-    out.say(b"\x1b[30;107m");
-    characters(side, grid, y, out);
-    out.say(b"\x1b[0m\n");
+impl Picture<'_> {
+    // The module at a place of the picture, whose border of four modules is light.
+    fn shown(&self, x: usize, y: usize) -> u8
+        requires { (x ≤ 186) × (y ≤ 186) }
+        ensures { result ≡ shown_at self.now.side self.now.grid.now x y }
+    {
+        let side = self.side;
+        if x < 4 || y < 4 || side + 4 <= x || side + 4 <= y {
+            return 0;
+        }
+        let k = (y - 4) * side + (x - 4);
+        self.grid.get(k).copied().unwrap_or(0)
+    }
+
+    // Puts the characters that show rows y and y + 1 behind a text.
+    fn characters(&self, y: usize, out: &mut Text)
+        requires { (y ≤ 185) × HasRoom out.old 555 }
+        ensures said { Adds out.old (characters_of self.now.side self.now.grid.now y (self.now.side + 8)) out.new }
+        ensures bound { out.new.len ≤ out.old.len + 555 }
+    {
+        for x in 0..self.side + 8 {
+            let upper = self.shown(x, y);
+            let lower = self.shown(x, y + 1);
+            out.say(glyph(upper, lower));
+        }
+    }
+
+    // Puts the line of text that shows rows y and y + 1 behind a text.
+    fn line(&self, y: usize, out: &mut Text)
+        requires { (y ≤ 185) × HasRoom out.old 569 }
+        ensures said { Adds out.old (line_of self.now.side self.now.grid.now y) out.new }
+        ensures bound { out.new.len ≤ out.old.len + 569 }
+    {
+        out.say(b"\x1b[30;107m");
+        self.characters(y, out);
+        out.say(b"\x1b[0m\n");
+    }
 }
 
 // Puts the whole picture behind a text.
@@ -59,7 +71,8 @@ pub fn draw(side: usize, grid: &[u8], out: &mut Text)
     ensures said { Adds out.old (picture_of side grid.now) out.new }
     ensures bound { out.new.len ≤ out.old.len + 52917 }
 {
+    let picture = Picture { side, grid };
     for j in 0..(side + 9) / 2 {
-        line(side, grid, 2 * j, out);
+        picture.line(2 * j, out);
     }
 }

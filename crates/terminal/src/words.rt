@@ -59,7 +59,7 @@ pub(crate) fn level_named(word: &[u8]) -> Option<QrCodeEcc>
     }
 }
 
-// The mask of a word, 8 for `auto`.
+// The mask of a word, 8 for `auto`. Tried: after a `match` on byte strings the proof does not know that the word is not `auto`.
 pub(crate) fn mask_named(word: &[u8]) -> Option<u8>
     ensures { result ≡ mask_named word.now }
 {
