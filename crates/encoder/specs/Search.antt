@@ -105,21 +105,21 @@ module _ (l first last : ℕ) (ss : List Segment) where
       let low : lowest_fit l first last ss ≡ v = found v st f.fit in
       rw (low, le-ltb last v st.high, f.bits)
 
-  -- ---- the same with what the code has in hand: version w, and what it says
+  -- ---- the same with what the code has in hand
 
-  module _ (v w : ℕ) (ew : w ≡ v) (st : Searched l first last v ss) where
-    pub none_here : (e : Told) → Err e ≡ fit_at l ss w → v < last → Searched l first last (v + 1) ss
-    none_here e q h = search_next v st (unfit l ss v e (q ∙ ap (fit_at l ss) ew)).0 h
+  module _ (v : ℕ) (st : Searched l first last v ss) where
+    pub none_here : (e : Told) → Err e ≡ fit_at l ss v → v < last → (w : ℕ) → w ≡ v + 1 → Searched l first last w ss
+    none_here e q h w ew = rw ew (search_next v st (unfit l ss v e q).0 h)
 
-    pub none_last : (e : Told) (boost : Bool) → Err e ≡ fit_at l ss w → last ≤ v → unplanned (number_of e) ≡ plan_fit l first last boost ss
-    none_last e boost q h = missed_plan boost v (number_of e) st (unfit l ss v e (q ∙ ap (fit_at l ss) ew)) h
+    pub none_last : (e : Told) (boost : Bool) → Err e ≡ fit_at l ss v → last ≤ v → unplanned (number_of e) ≡ plan_fit l first last boost ss
+    none_last e boost q h = missed_plan boost v (number_of e) st (unfit l ss v e q) h
 
-    module _ (n : ℕ) (q : Ok n ≡ fit_at l ss w) where
+    module _ (n : ℕ) (q : Ok n ≡ fit_at l ss v) where
       fit_here : Fitted l ss v n
-      fit_here = fitted l ss v n (q ∙ ap (fit_at l ss) ew)
+      fit_here = fitted l ss v n q
 
-      pub found_room : n ≤ capacity w l
-      found_room = rw ew fit_here.room
+      pub found_room : n ≤ capacity v l
+      found_room = fit_here.room
 
-      pub found_last : (a t b : ℕ) (boost : Bool) → t ≡ final_level w l boost n → a ≡ w → b ≡ n → planned a t b ≡ plan_fit l first last boost ss
-      found_last a t b boost et ea eb = rw (eb, et, ea, ew) (found_plan boost v n st fit_here)
+      pub found_last : (a t b : ℕ) (boost : Bool) → t ≡ final_level v l boost n → a ≡ v → b ≡ n → planned a t b ≡ plan_fit l first last boost ss
+      found_last a t b boost et ea eb = rw (eb, et, ea) (found_plan boost v n st fit_here)

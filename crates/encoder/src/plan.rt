@@ -84,16 +84,19 @@ fn plan_fit(settings: Settings, text: &[u8], records: &[u64]) -> Result<Plan, Re
     requires { (length records.now ≤ 8195) × T (every (good_part text.now) (parts_of records.now)) }
     ensures { plan_of result ≡ plan_fit (level_of settings.level) settings.minversion.value settings.maxversion.value settings.boostecl (segments_of text.now (parts_of records.now)) }
 {
-    let last = settings.maxversion;
-    for v in settings.minversion.value()..last.value() {
-        let version = types::version_at(v);
-        if let Ok(bits) = fit_at(text, records, version, settings.level) {
-            return Ok(plan_at(settings, version, bits));
+    let mut version = settings.minversion;
+    let bits = loop {
+        match fit_at(text, records, version, settings.level) {
+            Ok(bits) => break bits,
+            Err(refusal) => {
+                if settings.maxversion.value() <= version.value() {
+                    return Err(refusal);
+                }
+                version = types::version_at(version.value() + 1);
+            }
         }
-    }
-    // The last one alone decides which refusal it is.
-    let bits = fit_at(text, records, last, settings.level)?;
-    Ok(plan_at(settings, last, bits))
+    };
+    Ok(plan_at(settings, version, bits))
 }
 
 // Plans a label of the given records: refusals 4 to 7 in their order, or version, level and bits.
