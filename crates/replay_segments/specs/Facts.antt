@@ -1,7 +1,10 @@
 -- Facts that the proofs of the comparison cite: there is room in a zeroed buffer, and what the answers say.
 -- Assumes nothing.
-use Rattle.std.specs.Prelude.{◌≡◌, ℕ, ◌*◌, ◌/◌, ◌^◌, ◌<◌, ◌≤◌, Bool, true, T, List, [], ◌++◌, length, drop, replicate}
-use Rattle.std.proofs.Common.{sym, ap, ◌∙◌, subst, append-nil, arith, lit<, drop_of_length-le}
+use Rattle.std.specs.Prelude.{Option, Some, None, MatchOption, false, zero, suc, ◌≡◌, ℕ, ◌*◌, ◌+◌, ◌^◌, ◌<◌, ◌≤◌, Bool, true, T, List, [], length, take, replicate}
+use Rattle.std.specs.Option.{is_some}
+use Rattle.std.proofs.lemmas.Bool.{false≢true}
+use Rattle.std.proofs.lemmas.List.{take-replicate, length-replicate}
+use Rattle.std.proofs.Common.{lit≤, sym, ap, ◌∙◌, subst, arith, lit<, add-one, pow-suc}
 use Rattle.standard.specs.Numbers.{every}
 use Rattle.standard.specs.Kinds.{digit_bits, pair_bits, byte_bits, eci_bits}
 use Rattle.standard.specs.Sizes.{data_codewords}
@@ -12,7 +15,7 @@ use Rattle.types.specs.declared.QrCodeEcc.{QrCodeEcc}
 use Rattle.types.specs.Numbers.{level_of}
 use Rattle.bits.specs.Appended.{Free, free_zeros}
 use Rattle.segments.specs.Fit.{payload_short}
-use Rattle.segments.specs.Records.{parts_of, parts_length, all_good}
+use Rattle.segments.specs.Records.{parts_of, all_good}
 use Rattle.types.specs.Laws.{level_le}
 
 -- ---- room
@@ -38,21 +41,44 @@ module _ (buf : List ℕ) (z : buf ≡ replicate 4096 0) where
   unfolding payload
   eci_free a = let s = payload_short 3 [] a in free (eci_bits a) (omega arith)
 
-pub zeros_of : (bs : List ℕ) (n m : ℕ) → bs ≡ replicate n 0 → n ≡ m → bs ≡ replicate m 0
-zeros_of bs n m e q = e ∙ ap (λ (k : ℕ). replicate k 0) q
+pub zeros_of : (n m : ℕ) → n ≡ m → m ≤ 2956 → take n (replicate {A = ℕ} 2956 0) ≡ replicate m 0
+zeros_of n m e h = take-replicate n 2956 0 (omega arith) ∙ ap (λ (k : ℕ). replicate k 0) e
 
-pub zeros_end : (b o : List ℕ) (i n : ℕ) → b ≡ replicate i 0 ++ drop i o → i ≤ n → n ≤ i → n ≡ length o → b ≡ replicate (length o) 0
-zeros_end b o i n e l h q =
-    let f : i ≡ length o = omega arith in
-    e ∙ ap (λ (k : ℕ). replicate k 0 ++ drop k o) f ∙ ap (λ (r : List ℕ). replicate (length o) 0 ++ r) (drop_of_length-le o {i = length o} (omega arith)) ∙ append-nil (replicate (length o) 0)
+pub zeros_length : (n : ℕ) → n ≤ 2956 → n ≡ length (take n (replicate {A = ℕ} 2956 0))
+zeros_length n h = sym (ap length (take-replicate {X = ℕ} n 2956 0 h) ∙ length-replicate {A = ℕ} n 0)
 
-pub capacity_fits : (v n : ℕ) (ecl : QrCodeEcc) → n ≡ data_codewords v (level_of ecl) → 1 ≤ v → v ≤ 40 → 8 * n < 2 ^ 64
-capacity_fits v n ecl e low high = omega (arith, (pair_range v (level_of ecl) low high (level_le ecl)).words)
+pub words_fit : (v n : ℕ) (ecl : QrCodeEcc) → n ≡ data_codewords v (level_of ecl) → 1 ≤ v → v ≤ 40 → n ≤ 2956
+words_fit v n ecl e low high = omega (arith, (pair_range v (level_of ecl) low high (level_le ecl)).words)
+
+-- ---- six digits
+
+pub six_next : (n i d : ℕ) → n < 10 ^ i → d ≤ 9 → n * 10 + d < 10 ^ (i + 1)
+six_next n i d h l = let e : 10 ^ (i + 1) ≡ 10 ^ i * 10 = ap (λ (k : ℕ). 10 ^ k) (add-one i) ∙ pow-suc 10 i in omega arith
+
+six_power : (i : ℕ) → i < 6 → 10 ^ i ≤ 100_000
+six_power zero h = lit≤ tt
+six_power (suc zero) h = lit≤ tt
+six_power (suc (suc zero)) h = lit≤ tt
+six_power (suc (suc (suc zero))) h = lit≤ tt
+six_power (suc (suc (suc (suc zero)))) h = lit≤ tt
+six_power (suc (suc (suc (suc (suc zero))))) h = lit≤ tt
+six_power (suc (suc (suc (suc (suc (suc i)))))) h = absurd (omega arith)
+
+pub six_fits : (n i d : ℕ) → n < 10 ^ i → i < 6 → d ≤ 9 → n * 10 + d < 2 ^ 32
+six_fits n i d h l m = omega (arith, six_power i l)
+
+pub six_product : (n i : ℕ) → n < 10 ^ i → i < 6 → n * 10 < 2 ^ 32
+six_product n i h l = omega (arith, six_power i l)
+
+pub six_end : (n i : ℕ) → n < 10 ^ i → i ≤ 6 → 6 ≤ i → n < 1_000_000
+six_end n i h l m = let e : i ≡ 6 = omega arith in subst (λ (k : ℕ). n < 10 ^ k) e h
 
 -- ---- what the answers say
 
 pub all_of : (p : ℕ → Bool) (t : List ℕ) (b : Bool) → b ≡ every p t → b ≡ true → T (every p t)
 all_of p t b e q = true_T (every p t) (sym e ∙ q)
 
-pub good_of : (text ns : List ℕ) (f c : ℕ) → f ≡ first_bad text (parts_of ns) → c ≡ length ns / 4 → c ≤ f → T (every (good_part text) (parts_of ns))
-good_of text ns f c e q h = all_good text (parts_of ns) (omega (arith, parts_length ns))
+pub good_of : (text ns : List ℕ) (r : Option ℕ) → MatchOption r (first_bad text (parts_of ns) ≡ length (parts_of ns)) (λ i. (i ≡ first_bad text (parts_of ns)) × (i < length (parts_of ns))) → false ≡ is_some r
+    → T (every (good_part text) (parts_of ns))
+good_of text ns None e h = all_good text (parts_of ns) (omega arith)
+good_of text ns (Some i) e h = absurd (false≢true h)

@@ -1,30 +1,39 @@
 // The lines of the list: what is read of them, and what is compared with them.
-ghost use Rattle.std.specs.Prelude.{◌≡◌, ◌<◌, ◌≤◌, length, replicate};
+ghost use Rattle.std.specs.Prelude.{◌≡◌, ◌<◌, ◌≤◌, length, IfSome};
 
+use listing::decimal;
 use std::io::Read;
-use streams::read_full;
+use streams::{read_byte, read_full};
+use types::QrCodeEcc;
 
-// A digit of a line.
-pub(crate) fn digit(b: u8) -> usize
+// A digit of a line; 0 for any other character.
+pub(crate) fn digit(c: u8) -> u8
     ensures { result ≤ 9 }
 {
-    if b < 48 {
-        return 0;
-    }
-    if b > 57 {
-        return 0;
-    }
-    (b - 48) as usize
+    decimal(c).unwrap_or(0)
 }
 
-// Six digits of a line.
-pub(crate) fn six(line: &[u8; 24], at: usize) -> usize
+// The number of six digits of a line.
+#[tactic(auto, using(crate::specs::Facts::six_product, crate::specs::Facts::six_fits, crate::specs::Facts::six_next, crate::specs::Facts::six_end))]
+pub(crate) fn six(line: &[u8; 24], at: usize) -> u32
     requires { at ≤ 18 }
-    ensures { result < 1000000 }
+    ensures { result < 1_000_000 }
 {
-    let high = digit(line[at]) * 100 + digit(line[at + 1]) * 10 + digit(line[at + 2]);
-    let low = digit(line[at + 3]) * 100 + digit(line[at + 4]) * 10 + digit(line[at + 5]);
-    high * 1000 + low
+    let mut n = 0;
+    for c in &line[at..at + 6] {
+        n = n * 10 + u32::from(digit(*c));
+    }
+    n
+}
+
+// The level of a digit of a line.
+pub(crate) fn level(c: u8) -> QrCodeEcc {
+    match digit(c) {
+        0 => QrCodeEcc::Low,
+        1 => QrCodeEcc::Medium,
+        2 => QrCodeEcc::Quartile,
+        _ => QrCodeEcc::High,
+    }
 }
 
 // Reads a line of 24 bytes; zeros at the end of the input.
@@ -34,82 +43,50 @@ pub(crate) fn read_line(input: &mut impl Read) -> [u8; 24] {
     line
 }
 
-// Reads n bytes and the end of the line, where they fit.
-pub(crate) fn fill(input: &mut impl Read, buf: &mut [u8], n: usize) -> bool {
-    if n <= buf.len() {
-        let got = read_full(input, &mut buf[0..n]);
-        let mut end = [0u8; 1];
-        let _ = read_full(input, &mut end);
-        return got == n;
+// Reads n bytes and the end of the line, where they fit; there are none where the input ends before.
+pub(crate) fn read_part<'a>(input: &mut impl Read, buf: &'a mut [u8], n: usize) -> Option<&'a [u8]>
+    ensures { IfSome result (λ part. length part.now ≡ n) }
+{
+    let part = buf.get_mut(..n)?;
+    let got = read_full(input, part);
+    let _ = read_byte(input);
+    if got < n {
+        return None;
     }
-    false
+    Some(part)
 }
 
 // Whether the first bits of a buffer are those of a line of 0 and 1.
 pub(crate) fn same_bits(bb: &[u8; 4096], end: usize, line: &[u8]) -> bool {
-    if end != line.len() {
+    if line.len() != end || 32_768 < end {
         return false;
     }
-    if 32768 < end {
-        return false;
-    }
-    let mut i: usize = 0;
-    while i < end {
-        if bits::read_bit(bb, i) != line[i] % 2 {
+    for (i, c) in line.iter().enumerate() {
+        if bits::read_bit(bb, i) != *c % 2 {
             return false;
         }
-        i += 1;
     }
     true
 }
 
-// Stores a number, where there is room.
-fn put(records: &mut [u64], k: usize, x: usize) {
-    if k < records.len() {
-        records[k] = x as u64;
-    }
-}
-
-// Stores the numbers of record i, where there is room.
-fn put_record(records: &mut [u64], i: usize, kind: usize, start: usize, len: usize, assign: usize) {
-    if i < 16 {
-        put(records, 4 * i, kind);
-        put(records, 4 * i + 1, start);
-        put(records, 4 * i + 2, len);
-        put(records, 4 * i + 3, assign);
-    }
-}
-
-// Reads record i into a list of numbers, four to a record.
-fn read_record(input: &mut impl Read, records: &mut [u64], i: usize) {
+// Reads the four numbers of a record.
+fn read_record(input: &mut impl Read) -> [u64; 4] {
     let line = read_line(input);
-    put_record(
-        records,
-        i,
-        digit(line[1]),
-        six(&line, 3),
-        six(&line, 10),
-        six(&line, 17),
-    );
+    [
+        u64::from(digit(line[1])),
+        u64::from(six(&line, 3)),
+        u64::from(six(&line, 10)),
+        u64::from(six(&line, 17)),
+    ]
 }
 
-// Reads records into a list of numbers.
-pub(crate) fn read_records(input: &mut impl Read, records: &mut [u64], count: usize) {
-    let mut i: usize = 0;
-    while i < count {
-        read_record(input, records, i);
-        i += 1;
-    }
-}
-
-// Writes zeros.
-pub(crate) fn zero(bb: &mut [u8])
-    ensures { bb.new ≡ replicate (length bb.old) 0 }
-{
-    let n = bb.len();
-    let mut i: usize = 0;
-    while i < n {
-        bb[i] = 0;
-        i += 1;
+// Reads records into a list of numbers, four to a record, as far as there is room.
+pub(crate) fn read_records(input: &mut impl Read, numbers: &mut [u64], count: u32) {
+    let mut places = numbers.chunks_exact_mut(4);
+    for _ in 0..count {
+        let record = read_record(input);
+        if let Some(place) = places.next() {
+            place.copy_from_slice(&record);
+        }
     }
 }

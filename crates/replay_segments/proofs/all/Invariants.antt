@@ -1,10 +1,7 @@
--- `replay_segments::all` meets its contract.
+-- `replay_segments::all` meets its contract: there are no more cases than turns.
 -- Assumes nothing.
 use Rattle.std.proofs.Common.{◌≤◌}
 use Rattle.replay_segments.proofs.all.Given as goal
 
-abbrev pub invariant-loop-turns : goal.invariant-loop-turns
-invariant-loop-turns g l = 0 ≤ l.turns
-
-abbrev pub decreases-loop-turns : goal.decreases-loop-turns
-decreases-loop-turns g l = l.turns
+abbrev pub invariant-loop : goal.invariant-loop
+invariant-loop g l = (l.c.payloads ≤ l.counter) × (l.c.lists ≤ l.counter) × (l.c.differ ≤ l.counter)
