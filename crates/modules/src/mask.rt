@@ -38,6 +38,7 @@ fn mask_row(row: &mut [u8], mask: Mask, y: usize)
     for x in 0..6 {
         row[x] = u8::from(inverted(mask, x, y));
     }
+    // By an index: each place is read after it is written, six places on, which no iterator over the row does.
     for x in 6..row.len() {
         row[x] = row[x - 6];
     }
@@ -48,6 +49,7 @@ fn mask_rows(rows: &mut [u8], size: usize, mask: Mask)
     requires { (length rows.old ≡ 12 * size) × (6 ≤ size) × (size ≤ 177) }
     ensures { rows.new ≡ each (in_row mask.value size) rows.old }
 {
+    // Parts by an index: of what is written to the parts of chunks_mut a proof learns nothing.
     for y in 0..12 {
         mask_row(&mut rows[y * size..(y + 1) * size], mask, y);
     }
@@ -65,6 +67,7 @@ fn mask_band(grid: &mut [u8], rows: &[u8])
     requires { length grid.old ≤ length rows.now }
     ensures { grid.new ≡ each (λ k v. inverted (get_or rows.now k 0) v) grid.old }
 {
+    // The rows by an index: of what is written under a zip a proof learns nothing.
     for (k, m) in grid.iter_mut().enumerate() {
         *m = flipped(rows[k], *m);
     }
@@ -75,6 +78,7 @@ fn mask_bands(grid: &mut [u8], rows: &[u8])
     requires { 0 < length rows.now }
     ensures { grid.new ≡ each (λ k v. inverted (get_or rows.now (k % length rows.now) 0) v) grid.old }
 {
+    // Parts by an index: of what is written to the parts of chunks_mut a proof learns nothing.
     for at in (0..grid.len()).step_by(rows.len()) {
         let end = grid.len().min(at + rows.len());
         mask_band(&mut grid[at..end], rows);

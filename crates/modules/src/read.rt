@@ -98,6 +98,7 @@ fn copy_data(grid: &[u8], work: &mut [u8])
     requires { length grid.now ≡ length work.old }
     ensures { work.new ≡ copied grid.now work.old }
 {
+    // The grid by an index: of what is written under a zip a proof learns nothing.
     for (k, m) in work.iter_mut().enumerate() {
         *m = taken(*m, grid[k]);
     }

@@ -23,6 +23,7 @@ pub(crate) struct Case<'a> {
 }
 
 // Reads a line without its end, and answers its length; none at the end of the input. A line that is too long is read as several.
+// A length and no part of the buffer: the kind of an empty line is still that of the byte which stands first in it.
 pub(crate) fn read_line(input: &mut impl Read, line: &mut [u8]) -> Option<usize>
     ensures { IfSome result (λ n. n ≤ length line.new) }
 {
