@@ -2,26 +2,91 @@
 // kind, version, parameter, score. tools/vectors/penalty.rs makes the list, and has the same rules for the grids.
 #![tactic(auto)]
 
-ghost use Rattle.std.specs.Prelude.{◌≡◌, ◌*◌, ◌+◌, ◌<◌, ◌≤◌, length};
+ghost use Rattle.std.specs.Prelude.{◌≡◌, ◌*◌, ◌+◌, ◌^◌, ◌<◌, ◌≤◌, length};
 ghost use Rattle.standard.specs.Sizes.{side as side_of};
 ghost use Rattle.laws.specs.Grid.{Square};
 
 use std::io::Read;
 use streams::read_full;
-use types::Version;
+use types::{Mask, Version};
+
+// How the modules of a grid are made: dark by chance, or different from the one before by chance, or by a rule.
+#[derive(Clone, Copy)]
+enum Kind {
+    Random { flips: bool },
+    Regular(Rule),
+}
+
+// Grids of one colour, of stripes, and with cores at the borders of rows or columns.
+#[derive(Clone, Copy)]
+enum Rule {
+    Plain,
+    Upright,
+    Level,
+    RowCores,
+    ColumnCores,
+}
+
+impl Kind {
+    // The kind of a number of the list.
+    fn at(number: u64) -> Kind {
+        match number {
+            0 => Kind::Random { flips: false },
+            1 => Kind::Random { flips: true },
+            2 => Kind::Regular(Rule::Plain),
+            3 => Kind::Regular(Rule::Upright),
+            4 => Kind::Regular(Rule::Level),
+            5 => Kind::Regular(Rule::RowCores),
+            _ => Kind::Regular(Rule::ColumnCores),
+        }
+    }
+}
+
+// A case of the list, with the score that the original gives.
+#[derive(Clone, Copy)]
+struct Case {
+    kind: Kind,
+    version: Version,
+    parameter: usize,
+    score: u64,
+    ghost small: { parameter < 1000 },
+}
+
+impl Case {
+    // Reads a line; there is no case where it names no version.
+    fn parse(line: &[u8; 17]) -> Option<Case> {
+        Some(Case {
+            version: Version::new(number(&line[2..4]) as u8)?,
+            kind: Kind::at(number(&line[0..1])),
+            parameter: number(&line[5..8]) as usize,
+            score: number(&line[9..16]),
+        })
+    }
+}
+
+// The number that digits name; another byte counts as 0.
+fn number(digits: &[u8]) -> u64
+    requires { length digits.now ≤ 7 }
+    ensures { result < 10 ^ length digits.now }
+{
+    let mut n: u64 = 0;
+    for byte in digits {
+        n = 10 * n + digit(*byte);
+    }
+    n
+}
 
 // A digit of a line.
-fn digit(b: u8) -> u64
+fn digit(byte: u8) -> u64
     ensures { result ≤ 9 }
 {
-    if b < 48 {
-        return 0;
+    match byte {
+        b'0'..=b'9' => (byte - b'0') as u64,
+        _ => 0,
     }
-    if b > 57 {
-        return 0;
-    }
-    (b - 48) as u64
 }
+
+/*---- Grids ----*/
 
 // The next random number.
 fn next(x: u64) -> u64
@@ -31,271 +96,149 @@ fn next(x: u64) -> u64
     (x * 1103515245 + 12345) % 2147483648
 }
 
-// The module after one of the colour last, where x is the random number.
-fn random_module(x: u64, seed: u64, last: u8, flips: bool) -> u8 {
-    let hit = x / 65536 % 8 < 1 + seed % 7;
-    if flips {
-        if hit {
-            return 1 - last % 2;
-        }
-        return last;
-    }
-    if hit {
-        return 1;
-    }
-    0
-}
-
 // Modules that are dark by chance, or that differ from the one before by chance.
 fn random(grid: &mut [u8], seed: u64, flips: bool)
     requires { seed < 2147483648 }
 {
     let mut x = seed;
-    let mut last: u8 = 0;
-    for i in 0..grid.len() {
+    let mut last = false;
+    for module in grid {
         x = next(x);
-        last = random_module(x, seed, last, flips);
-        grid[i] = last;
+        let hit = x / 65536 % 8 < 1 + seed % 7;
+        last = hit != (flips && last);
+        *module = last as u8;
     }
 }
 
 // Whether a module is dark in a core of unit n that begins d modules from the border.
-fn core(at: usize, n: usize, d: usize) -> u8
-    requires { (n < 100) × (d < 10) }
-{
-    if n == 0 {
-        return 0;
-    }
-    if at < d {
-        return 0;
-    }
-    if at >= d + 7 * n {
-        return 0;
-    }
-    let unit = (at - d) / n;
-    if unit == 1 {
-        return 0;
-    }
-    if unit == 5 {
-        return 0;
-    }
-    1
+fn core(at: usize, n: usize, d: usize) -> bool {
+    n > 0 && at >= d && matches!((at - d) / n, 0 | 2..=4 | 6)
 }
 
 // Lines by threes: a core at one border, at the other, and dark.
-fn finder(side: usize, along: usize, across: usize, n: usize, d: usize) -> u8
-    requires { (along < side) × (n < 100) × (d < 10) }
+fn finder(side: usize, along: usize, across: usize, p: usize) -> bool
+    requires { along < side }
 {
-    if across % 3 == 0 {
-        return core(along, n, d);
+    match across % 3 {
+        0 => core(along, p / 10, p % 10),
+        1 => core(side - 1 - along, p / 10, p % 10),
+        _ => true,
     }
-    if across % 3 == 1 {
-        return core(side - 1 - along, n, d);
-    }
-    1
 }
 
 // A module of a stripe p modules wide.
-fn stripe(at: usize, p: usize) -> u8 {
-    if p == 0 {
-        return 0;
-    }
-    (at / p % 2) as u8
+fn stripe(at: usize, p: usize) -> bool {
+    p > 0 && at / p % 2 == 1
 }
 
-// A module of a grid of one colour.
-fn plain(p: usize) -> u8 {
-    if p == 1 {
-        return 1;
+impl Rule {
+    // Whether the module at column x and row y is dark.
+    fn module(self, side: usize, x: usize, y: usize, p: usize) -> bool
+        requires { (x < side) × (y < side) }
+    {
+        match self {
+            Rule::Plain => p == 1,
+            Rule::Upright => stripe(x, p),
+            Rule::Level => stripe(y, p),
+            Rule::RowCores => finder(side, x, y, p),
+            Rule::ColumnCores => finder(side, y, x, p),
+        }
     }
-    0
-}
 
-// The module at column x and row y, of a kind that is not random.
-fn regular_module(kind: u64, side: usize, x: usize, y: usize, p: usize) -> u8
-    requires { (x < side) × (y < side) × (p < 1000) }
-{
-    if kind == 2 {
-        return plain(p);
+    // The grid of a rule.
+    fn draw(self, grid: &mut [u8], side: usize, p: usize)
+        requires { (1 ≤ side) × (length grid.old ≡ side * side) }
+    {
+        for (i, module) in grid.iter_mut().enumerate() {
+            *module = self.module(side, i % side, i / side, p) as u8;
+        }
     }
-    if kind == 3 {
-        return stripe(x, p);
-    }
-    if kind == 4 {
-        return stripe(y, p);
-    }
-    if kind == 5 {
-        return finder(side, x, y, p / 10, p % 10);
-    }
-    finder(side, y, x, p / 10, p % 10)
-}
-
-// The grid of a kind that is not random.
-fn regular(grid: &mut [u8], kind: u64, side: usize, p: usize)
-    requires { (1 ≤ side) × (length grid.old ≡ side * side) × (p < 1000) }
-{
-    for i in 0..grid.len() {
-        grid[i] = regular_module(kind, side, i % side, i / side, p);
-    }
-}
-
-// Makes the grid of a case.
-fn make(grid: &mut [u8], kind: u64, side: usize, p: u64)
-    requires { (1 ≤ side) × (length grid.old ≡ side * side) × (p < 1000) }
-{
-    if kind == 0 {
-        random(grid, p, false);
-        return;
-    }
-    if kind == 1 {
-        random(grid, p, true);
-        return;
-    }
-    regular(grid, kind, side, p as usize);
-}
-
-// Module i as a function module, for every fifth.
-fn marked(byte: u8, i: usize) -> u8 {
-    if i % 5 == 0 {
-        return byte % 2 + 2;
-    }
-    byte
 }
 
 // Marks every fifth module as a function module, which no mask inverts.
 fn mark(grid: &mut [u8]) {
-    for i in 0..grid.len() {
-        grid[i] = marked(grid[i], i);
+    for five in grid.chunks_mut(5) {
+        five[0] = five[0] % 2 + 2;
     }
 }
 
-// Scores the grid on packed lines: mask m is drawn, and the same mask laid over the packed lines takes it off again.
-fn score_packed(grid: &mut [u8], rows: &mut [u64], columns: &mut [u64], ver: Version, m: u8) -> u32
-    requires square { Square grid.old (side_of ver.value) }
-    requires version { (m < 8) × (length rows.old ≡ 6 * side_of ver.value) × (length columns.old ≡ 6 * side_of ver.value) }
+/*---- Scores ----*/
+
+// How many cases are read at most.
+const MOST: u64 = 999999;
+
+// Scores the grid on packed lines: the mask is drawn, and the same mask laid over the packed lines takes it off again.
+fn packed_score(grid: &mut [u8], ver: Version, mask: Mask) -> u32
+    requires { Square grid.old (side_of ver.value) }
 {
-    modules::apply_mask(grid, ver, types::mask_at(m));
     let side = patterns::size_of(ver);
+    let mut row_words = [0u64; 1062];
+    let mut column_words = [0u64; 1062];
+    let rows = &mut row_words[0..6 * side];
+    let columns = &mut column_words[0..6 * side];
+    modules::apply_mask(grid, ver, mask);
     packed::pack_rows(grid, side, rows);
     packed::pack_columns(grid, side, columns);
-    packed::get_penalty_score(grid, rows, columns, side, m as usize)
+    packed::get_penalty_score(grid, rows, columns, side, mask.value() as usize)
 }
 
-// Has room for the packed lines.
-fn score_lines(grid: &mut [u8], ver: Version, m: u8) -> u32
-    requires square { Square grid.old (side_of ver.value) }
-    requires version { m < 8 }
-{
-    mark(grid);
-    let mut rows = [0u64; 1062];
-    let mut columns = [0u64; 1062];
-    let words = 6 * patterns::size_of(ver);
-    score_packed(grid, &mut rows[0..words], &mut columns[0..words], ver, m)
-}
-
-// Makes the grid and scores it in both ways; 0xFFFF_FFFF, which is no score, if they differ.
-fn score(grid: &mut [u8], kind: u64, ver: Version, p: u64) -> u32
-    requires square { Square grid.old (side_of ver.value) }
-    requires version { p < 1000 }
-{
-    let side = patterns::size_of(ver);
-    make(grid, kind, side, p);
-    let scanned = penalty::get_penalty_score(grid, side);
-    if score_lines(grid, ver, (p % 8) as u8) != scanned {
-        return 0xFFFF_FFFF;
-    }
-    scanned
-}
-
-// Uses as many bytes as the grid has modules.
-fn score_in(room: &mut [u8], kind: u64, ver: Version, p: u64) -> u32
-    requires { p < 1000 }
-{
-    let side = patterns::size_of(ver);
-    let n = side * side;
-    if n > room.len() {
-        return 0;
-    }
-    score(&mut room[0..n], kind, ver, p)
-}
-
-// The score of the grid of a case.
-fn score_of(kind: u64, ver: Version, p: u64) -> u32
-    requires { p < 1000 }
-{
+// The score of the grid of a case, if the byte scan and the packed lines give the same.
+fn score(case: Case) -> Option<u32> {
+    let side = patterns::size_of(case.version);
     let mut room = [0u8; 31329];
-    score_in(&mut room, kind, ver, p)
+    let grid = &mut room[0..side * side];
+    match case.kind {
+        Kind::Random { flips } => random(grid, case.parameter as u64, flips),
+        Kind::Regular(rule) => rule.draw(grid, side, case.parameter),
+    }
+    let scanned = penalty::get_penalty_score(grid, side);
+    mark(grid);
+    let mask = types::mask_at((case.parameter % 8) as u8);
+    if packed_score(grid, case.version, mask) == scanned {
+        Some(scanned)
+    } else {
+        None
+    }
 }
 
-// 0 if the score of a case is the one that its line gives, else 1.
-fn differs(line: [u8; 17]) -> u64
-    ensures { result ≤ 1 }
-{
-    let ver = digit(line[2]) * 10 + digit(line[3]);
-    if ver < 1 {
-        return 1;
+// Whether the score of a line's case is the one that the line gives.
+fn agrees(line: &[u8; 17]) -> bool {
+    let Some(case) = Case::parse(line) else {
+        return false;
+    };
+    match score(case) {
+        Some(found) => found as u64 == case.score,
+        None => false,
     }
-    if ver > 40 {
-        return 1;
-    }
-    let p = digit(line[5]) * 100 + digit(line[6]) * 10 + digit(line[7]);
-    let high = digit(line[9]) * 1000000 + digit(line[10]) * 100000 + digit(line[11]) * 10000;
-    let low = digit(line[12]) * 1000 + digit(line[13]) * 100 + digit(line[14]) * 10;
-    let found = score_of(digit(line[0]), types::version_at(ver as u8), p);
-    if found as u64 == high + low + digit(line[15]) {
-        return 0;
-    }
-    1
 }
 
-// What has been compared so far.
+// How many scores were compared, and how many of them differ.
 #[derive(Clone, Copy)]
 struct Tally {
     compared: u64,
     differ: u64,
-    more: bool,
-}
-
-// One case more, or the end of the input.
-fn one(input: &mut impl Read, t: Tally) -> Tally
-    requires { (t.compared < 1000000) × (t.differ ≤ t.compared) }
-    ensures { (result.compared ≤ t.compared + 1) × (result.differ ≤ result.compared) }
-{
-    let mut line = [0u8; 17];
-    let got = read_full(input, &mut line);
-    if got < 17 {
-        return Tally {
-            compared: t.compared,
-            differ: t.differ,
-            more: false,
-        };
-    }
-    Tally {
-        compared: t.compared + 1,
-        differ: t.differ + differs(line),
-        more: true,
-    }
 }
 
 // Every case of the input.
 fn all(input: &mut impl Read) -> Tally {
-    let mut t = Tally {
-        compared: 0,
-        differ: 0,
-        more: true,
-    };
-    let mut turns: u64 = 0;
-    while turns < 999999 && t.more {
-        t = one(input, t);
-        turns += 1;
+    let mut differ: u64 = 0;
+    let mut line = [0u8; 17];
+    for compared in 0..MOST {
+        if read_full(input, &mut line) < line.len() {
+            return Tally { compared, differ };
+        }
+        differ += !agrees(&line) as u64;
     }
-    t
+    Tally {
+        compared: MOST,
+        differ,
+    }
 }
 
 fn main(rt: HostRuntime) {
-    let t = all(&mut rt.reader());
-    streams::number(&rt, t.compared);
+    let tally = all(&mut rt.reader());
+    streams::number(&rt, tally.compared);
     streams::say(&rt, b" scores compared, ");
-    streams::number(&rt, t.differ);
+    streams::number(&rt, tally.differ);
     streams::say(&rt, b" differ\n");
 }

@@ -1,12 +1,7 @@
--- `replay_penalty::random` meets its contract. The random number stays below 2 ^ 31.
+-- `replay_penalty::random` is safe: the random number stays in its range.
 -- Assumes nothing.
-use Prim.Native.Nat.{◌-◌, ◌≤◌, ◌<◌}
-use mathlib.Core.Path.{◌≡◌}
-use lib.ListN.{length}
+use Prim.Native.Nat.{◌<◌}
 use Rattle.replay_penalty.proofs.random.Given as goal
 
-abbrev pub invariant-loop-i : goal.invariant-loop-i
-invariant-loop-i l = (l.i-end ≡ length l.grid) × (l.i ≤ l.i-end) × (l.x < 2147483648)
-
-abbrev pub decreases-loop-i : goal.decreases-loop-i
-decreases-loop-i l = l.i-end - l.i
+abbrev pub invariant-loop-module : goal.invariant-loop-module
+invariant-loop-module l = l.x < 2147483648
