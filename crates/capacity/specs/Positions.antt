@@ -63,15 +63,20 @@ pub stored_first : (v : ℕ) → (v ≡ 1 → ⊥) → Stored v 1 (set (replicat
 stored_first v more = record { long = refl; same = ap (take 1) (sym (several v more)); rest = refl }
 
 module _ (v : ℕ) (l : List ℕ) (more : v ≡ 1 → ⊥) where
+  position_is : (i s w : ℕ) → s ≡ alignment_step w → v ≡ w → 1 ≤ i → i < centres v → 4 * v + 10 - (centres v - 1 - i) * s ≡ get_or (alignment v) i 0
+  position_is i s w es q low h =
+      let at : suc (i - 1) ≡ i = omega arith in
+      ap₂ ◌-◌ (top v) (ap₂ ◌*◌ (shifted (centres v) i low) (es ∙ ap alignment_step (sym q)))
+      ∙ sym (at_position v more (i - 1) (omega arith))
+      ∙ ap (λ (m : ℕ). get_or (alignment v) m 0) at
+    where
+      top : (v : ℕ) → 4 * v + 10 ≡ side v - 7
+      top v = omega arith
+
   pub stored_next : (i s w : ℕ) → Stored v i l → s ≡ alignment_step w → v ≡ w → 1 ≤ i → i < centres v → centres v ≤ 7
       → Stored v (i + 1) (set l i (4 * v + 10 - (centres v - 1 - i) * s))
   stored_next i s w st es q low h few =
-      let at : suc (i - 1) ≡ i = omega arith in
-      let top : 4 * v + 10 ≡ side v - 7 = omega arith in
-      let value : 4 * v + 10 - (centres v - 1 - i) * s ≡ get_or (alignment v) i 0 =
-      ap₂ ◌-◌ top (ap₂ ◌*◌ (shifted (centres v) i low) (es ∙ ap alignment_step (sym q)))
-      ∙ sym (at_position v more (i - 1) (omega arith))
-      ∙ ap (λ (m : ℕ). get_or (alignment v) m 0) at in
+      let value = position_is i s w es q low h in
       record {
         long = length-set l i (4 * v + 10 - (centres v - 1 - i) * s) ∙ st.long;
         same = ap (λ (m : ℕ). take m (set l i (4 * v + 10 - (centres v - 1 - i) * s))) (add-one i)

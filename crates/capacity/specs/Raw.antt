@@ -1,12 +1,9 @@
--- What the sums of raw modules and data codewords stay below, computed at each version; and the laws of their returns.
+-- Laws of raw modules and data codewords: what is returned in each case.
 -- Assumes nothing.
-use Rattle.std.specs.Prelude.{ℕ, ◌+◌, ◌-◌, ◌*◌, ◌/◌, ◌^◌, ◌≤◌, ◌<◌, Bool, ◌&&◌, ◌≡◌, T}
+use Rattle.std.specs.Prelude.{ℕ, ◌+◌, ◌-◌, ◌*◌, ◌/◌, ◌^◌, ◌≤◌, ◌<◌, ◌≡◌}
 use Rattle.std.proofs.Common.{arith, le-leb}
-use Rattle.std.proofs.Math.Dec.{leb, leb→le}
 use Rattle.std.proofs.lemmas.Bool.{lt-leb}
 use Rattle.standard.specs.Sizes.{raw_modules, raw_codewords, check_bytes, blocks, data_codewords}
-use Rattle.laws.specs.Tests.{and_left, and_right}
-use Rattle.laws.specs.Computed.{among, at_version}
 use Rattle.counts.specs.Ranges.{PairRange, pair_range, VersionRange, version_range}
 
 -- all modules but finders and format, and what alignment takes
@@ -15,31 +12,6 @@ all v = (16 * v + 128) * v + 64
 
 abbrev pub fewer : ℕ → ℕ
 fewer v = (25 * (v / 7 + 2) - 10) * (v / 7 + 2)
-
-sized : ℕ → Bool
-sized v = leb (all v) 40_000 && (leb (fewer v) 5_000 && leb (fewer v - 55 + 36) (all v))
-
-all_sized : T (among 1 40 sized)
-unfolding sized
-all_sized = tt
-
-module _ (v : ℕ) (low : 1 ≤ v) (high : v ≤ 40) where
-  one : T (sized v)
-  one = at_version sized all_sized v low high
-
-  rest : T (leb (fewer v) 5_000 && leb (fewer v - 55 + 36) (all v))
-  unfolding sized
-  rest = and_right (leb (all v) 40_000) (leb (fewer v) 5_000 && leb (fewer v - 55 + 36) (all v)) one
-
-  pub all_le : all v ≤ 40_000
-  unfolding sized
-  all_le = leb→le (all v) 40_000 (and_left (leb (all v) 40_000) (leb (fewer v) 5_000 && leb (fewer v - 55 + 36) (all v)) one)
-
-  pub fewer_le : fewer v ≤ 5_000
-  fewer_le = leb→le (fewer v) 5_000 (and_left (leb (fewer v) 5_000) (leb (fewer v - 55 + 36) (all v)) rest)
-
-  pub less_le : fewer v - 55 + 36 ≤ all v
-  less_le = leb→le (fewer v - 55 + 36) (all v) (and_right (leb (fewer v) 5_000) (leb (fewer v - 55 + 36) (all v)) rest)
 
 -- ---- the returns of the raw modules
 

@@ -1,2 +1,3 @@
 pub mod Shown
+pub mod Cases
 pub mod Walk

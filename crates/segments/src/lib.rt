@@ -1,26 +1,18 @@
 // Segments: characters and ECI numbers as bits, records that name parts of one lent text, and the data codewords.
 #![tactic(auto)]
 
-ghost use Rattle.std.specs.Prelude.{◌≡◌, ◌^◌, ◌<◌, ◌≤◌, T};
+ghost use Rattle.std.specs.Prelude.{◌≡◌, ◌^◌, ◌<◌, ◌≤◌, T, MatchOption};
 ghost use Rattle.standard.specs.Numbers.{every};
 ghost use Rattle.standard.specs.Kinds.{code, is_digit, is_alphanumeric, allowed};
 ghost use Rattle.standard.specs.Segments.{text_kind};
-ghost use Rattle.types.specs.Numbers.{kind_of, text_kind_of};
+ghost use Rattle.types.specs.Numbers.{text_kind_of};
 ghost use Rattle.segments.specs.Kinds.{size, base, width, code_of, char_of};
-ghost use Rattle.segments.specs.Runs.{part};
 
-use types::{QrSegmentMode, TextKind};
+use types::TextKind;
 
 pub mod codewords;
 pub mod make;
 pub mod records;
-
-// What `get_total_bits` answers: the bits, or that a segment has too many characters to fit its length field.
-#[derive(Clone, Copy)]
-pub enum TotalBits {
-    Bits(usize),
-    TooLong,
-}
 
 // By count of characters: the bits of a group.
 const NUMERIC_WIDTHS: [u8; 4] = [0, 4, 7, 10];
@@ -45,13 +37,6 @@ pub fn size_of(kind: TextKind) -> usize
         TextKind::Alphanumeric => 2,
         TextKind::Byte => 1,
     }
-}
-
-// How many of n characters stand in the next group.
-fn part_of(kind: TextKind, n: usize) -> usize
-    ensures { result ≡ part (text_kind_of kind) n }
-{
-    size_of(kind).min(n)
 }
 
 // The bits of a group of m characters.
@@ -91,19 +76,11 @@ pub fn char_of(kind: TextKind, d: u32) -> u8
     }
 }
 
-// The place of a character in the alphanumeric set; 45 where it stands at none.
-fn alphanumeric_code(c: u8) -> usize
-    ensures { result ≡ code c }
+// The place of a character in the alphanumeric set, if it stands there.
+fn alphanumeric_code(c: u8) -> Option<usize>
+    ensures { MatchOption result (45 ≤ code c) (λ i. (i ≡ code c) × (i < 45)) }
 {
-    let mut i: usize = 0;
-    while i < 45 {
-        let x = char_of(TextKind::Alphanumeric, i as u32);
-        if x == c {
-            return i;
-        }
-        i += 1;
-    }
-    i
+    ALPHANUMERIC_CHARSET.iter().position(|x| *x == c)
 }
 
 // The code of a character of a kind.
@@ -114,30 +91,19 @@ fn code_of(kind: TextKind, c: u8) -> u32
 {
     match kind {
         TextKind::Numeric => (c - b'0') as u32,
-        TextKind::Alphanumeric => alphanumeric_code(c) as u32,
+        TextKind::Alphanumeric => alphanumeric_code(c).unwrap() as u32,
         TextKind::Byte => c as u32,
     }
 }
 
-// The mode of a kind.
-fn mode_of(kind: u8) -> QrSegmentMode
-    requires { kind ≤ 3 }
-    ensures { kind_of result ≡ kind }
-{
-    match TextKind::new(kind as u64) {
-        Some(k) => k.mode(),
-        None => QrSegmentMode::Eci,
-    }
-}
-
-#[tactic(auto, unfolding(standard::specs::Kinds::allowed, standard::specs::Kinds::is_digit, standard::specs::Kinds::is_alphanumeric))]
 // Tests whether the given character is one of a kind. Every byte is one of the kind Byte.
+#[tactic(auto, unfolding(standard::specs::Kinds::allowed, standard::specs::Kinds::is_digit, standard::specs::Kinds::is_alphanumeric))]
 fn is_allowed(kind: TextKind, c: u8) -> bool
     ensures { result ≡ allowed (text_kind_of kind) c }
 {
     match kind {
-        TextKind::Numeric => b'0' <= c && c <= b'9',
-        TextKind::Alphanumeric => alphanumeric_code(c) < 45,
+        TextKind::Numeric => c.is_ascii_digit(),
+        TextKind::Alphanumeric => alphanumeric_code(c).is_some(),
         TextKind::Byte => true,
     }
 }
