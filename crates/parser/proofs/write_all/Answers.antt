@@ -46,7 +46,7 @@ pub slice_bounds-copy_from_slice-end : goal.slice_bounds-copy_from_slice-end
 slice_bounds-copy_from_slice-end c =
     let l = c.loop-seg in
     let v = l.invariant in
-    seg_cell c.args.ver.value c.args.buf.now l.at l.r l.t c.args.text.now c.args.records.now l.text l.records v.0 _ c.step_at.ensures v.2 v.1 c.requires.1 _ _ _ _ _ (ap step_of (c.in-Ok-Some.is ∙ ap (λ o. Ok o) c.in-Ok-Some.field-0-is)) v.4
+    omega (arith, seg_cell c.args.ver.value c.args.buf.now l.at l.r l.t c.args.text.now c.args.records.now l.text l.records v.0 _ c.step_at.ensures v.2 v.1 c.requires.1 _ _ _ _ _ (ap step_of (c.in-Ok-Some.is ∙ ap (λ o. Ok o) c.in-Ok-Some.field-0-is)) v.4)
 
 pub loop-seg-smaller : goal.loop-seg-smaller
 loop-seg-smaller c =
