@@ -27,7 +27,7 @@ fn append_segments(bb: &mut [u8], ver: Version, text: &[u8], records: &[u64]) ->
 }
 
 // Pad byte i.
-fn pad_byte(i: usize) -> u8
+pub fn pad_byte(i: usize) -> u8
     ensures { result ≡ pad_byte i }
 {
     if i % 2 == 0 { 0xEC } else { 0x11 }
