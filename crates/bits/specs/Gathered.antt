@@ -87,6 +87,3 @@ gather_end bs at len k end n r er ek ee en room =
 -- the number of which the low bits are kept
 pub power_is : (len : ℕ) → len ≤ 32 → 1 * 2 ^ len % 2 ^ 64 ≡ 2 ^ len
 power_is len h = shl_exact {a = 1} 1 len 64 (lit< tt) (omega arith) ∙ one-mul (2 ^ len)
-
-pub kept_lt : (x len : ℕ) → len ≤ 32 → x % 2 ^ len < 2 ^ 32
-kept_lt x len h = lt_of_lt_of_le (mod-lt x (pow_pos len)) (pow_mono {i = len} {j = 32} h)

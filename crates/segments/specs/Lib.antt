@@ -3,7 +3,6 @@ pub mod Tables
 pub mod Runs
 pub mod Payload
 pub mod Eci
-pub mod Chars
 pub mod Codes
 pub mod Groups
 pub mod Texts

@@ -115,6 +115,8 @@ fn is_text(kind: TextKind, text: &[u8]) -> bool
     text.iter().all(|c| is_allowed(kind, *c))
 }
 
+// The next two are the original's names for `is_text` of one kind, and docs/SPECIFICATION.md names them.
+
 // Tests whether the given string can be encoded as a segment in numeric mode.
 // A string is encodable iff each character is in the range 0 to 9.
 #[tactic(auto, unfolding(standard::specs::Kinds::allowed))]

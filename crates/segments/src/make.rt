@@ -41,6 +41,8 @@ fn append_groups(bb: &mut [u8], at: usize, kind: TextKind, text: &[u8]) -> usize
     p
 }
 
+// The next three are the original's names for `append_groups` of one kind, and docs/PROOFS.md (`make_*`) names what each promises.
+
 // Appends the given binary data, encoded in byte mode, and returns the bit after it.
 // All input byte slices are acceptable.
 pub fn make_bytes(bb: &mut [u8], at: usize, data: &[u8]) -> usize
