@@ -1,6 +1,6 @@
 -- When a text begins with a picture.
 -- Assumes nothing.
-use Rattle.std.specs.Prelude.{ℕ, zero, suc, ◌+◌, ◌-◌, ◌*◌, ◌/◌, ◌%◌, ◌^◌, ◌≤◌, ◌<◌, Bool, true, false, cond, not, ◌||◌, List, [], ◌∷◌, ◌++◌, ◌≡◌, refl, T, eqb, ltb, length, get_or, take, drop}
+use Rattle.std.specs.Prelude.{ℕ, zero, suc, ◌+◌, ◌-◌, ◌*◌, ◌/◌, ◌%◌, ◌≤◌, ◌<◌, Bool, true, false, cond, not, ◌||◌, List, [], ◌∷◌, ◌++◌, ◌≡◌, refl, T, eqb, ltb, length, get_or, take, drop}
 use Rattle.std.proofs.Common.{append_assoc, sym, ap, ap₂, ◌∙◌, arith, length-append, take-append-drop}
 use Rattle.std.proofs.Math.ListN.{get_or-eq_default}
 use Rattle.std.proofs.Math.Seq.{take-append_seam}
@@ -16,12 +16,6 @@ use Rattle.terminal.specs.Scan.{halves, upper, lower, module_of, side_of, Begins
 use Rattle.terminal.specs.ScanBack.{join_ones, scan_picture}
 
 -- ---- the parts of a grid that are lent
-
-pub square_fits : (side : ℕ) → side ≤ 177 → side * side < 2 ^ 64
-square_fits side h = omega (arith, square_small side h)
-
-pub square_in : (g : List ℕ) (side : ℕ) → length g ≡ 65536 → side ≤ 177 → side * side ≤ length g
-square_in g side e h = omega (arith, square_small side h)
 
 pub square_few : (g : List ℕ) (side : ℕ) → length g ≡ side * side → side ≤ 177 → length g ≤ 31329
 square_few g side e h = omega (arith, square_small side h)

@@ -1,7 +1,7 @@
 -- Laws for the loops and the returns that make the picture.
 -- Assumes nothing.
-use Rattle.std.specs.Prelude.{ℕ, ◌+◌, ◌-◌, ◌*◌, ◌/◌, ◌^◌, ◌≤◌, ◌<◌, List, ◌≡◌, refl, length, get_or}
-use Rattle.std.proofs.Common.{ap, ap₂, ◌∙◌, mul-le-mul, arith, le-ltb}
+use Rattle.std.specs.Prelude.{ℕ, ◌+◌, ◌-◌, ◌*◌, ◌/◌, ◌≤◌, ◌<◌, List, ◌≡◌, refl, length, get_or}
+use Rattle.std.proofs.Common.{ap, ap₂, ◌∙◌, arith, le-ltb}
 use Rattle.std.proofs.lemmas.Bool.{lt-leb}
 use Rattle.terminal.specs.Text.{bytes, Said}
 use Rattle.terminal.specs.TextLaws.{said_as, said_none, said_then, said_next}
@@ -12,15 +12,6 @@ use Rattle.terminal.specs.Picture.{shown, glyph, characters, line, lines, pictur
 module _ (side : ℕ) (g : List ℕ) (x y : ℕ) where
   pub shown_inside : 4 ≤ x → 4 ≤ y → x < side + 4 → y < side + 4 → get_or g ((y - 4) * side + (x - 4)) 0 ≡ shown side g x y
   shown_inside a b c d = rw (le-ltb x 4 a, le-ltb y 4 b, lt-leb (side + 4) x c, lt-leb (side + 4) y d)
-
-small : (side y : ℕ) → side ≤ 177 → y ≤ 186 → (y - 4) * side ≤ 186 * 177
-small side y a b = let r : y - 4 ≤ 186 = omega arith in mul-le-mul r a
-
-pub row_fits : (side y : ℕ) → side ≤ 177 → y ≤ 186 → (y - 4) * side < 2 ^ 64
-row_fits side y a b = omega (arith, small side y a b)
-
-pub cell_fits : (side x y : ℕ) → side ≤ 177 → x ≤ 186 → y ≤ 186 → (y - 4) * side + (x - 4) < 2 ^ 64
-cell_fits side x y a b c = omega (arith, small side y a c)
 
 -- ---- a line of characters
 

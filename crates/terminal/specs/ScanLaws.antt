@@ -4,7 +4,7 @@ use Prim.Native.Nat.{ℕ, zero, suc, ◌+◌, ◌-◌, ◌*◌, ◌/◌, ◌%◌
 use Rattle.std.specs.Prelude.{Bool, cond, Option, Some, None, MatchOption, unwrap_or, List, [], ◌∷◌, ◌++◌, ◌≡◌, refl, ltb, get_or, take, drop}
 use Rattle.std.proofs.Math.Bool.{true, false, not}
 use Rattle.std.proofs.Math.Path.{sym, ap}
-use Rattle.std.proofs.Common.{◌∙◌, add-one, append-nil, mul-le-mul, mod-lt, div-add-mod', div-le_self, mul-add, mul-one, zero-mul, length-take, take-suc, take_all, lt-ltb, le-ltb}
+use Rattle.std.proofs.Common.{◌∙◌, add-one, append-nil, div-add-mod', div-le_self, mul-add, mul-one, zero-mul, length-take, take-suc, take_all, lt-ltb, le-ltb}
 use native.Mathlib.Omega.{arith}
 use Rattle.std.proofs.Math.ListN.{length}
 use Rattle.standard.specs.Numbers.{tabulate, least, cons_if, place}
@@ -45,28 +45,6 @@ module _ (t : List ℕ) where
   halves_end o h at n i s b = said_as s (ap halves (take_all i t b)) refl
 
 -- ---- the loops over a grid
-
-module _ (k side : ℕ) (h : k ≤ 31328) where
-  pub row_fits : k / side + 4 < 2 ^ 64
-  row_fits = omega (arith, div-le_self k side)
-
-  pub column_fits : 0 < side → side ≤ 177 → k % side + 4 < 2 ^ 64
-  column_fits p s = omega (arith, mod-lt k p)
-
-  line_small : side ≤ 177 → (k / side + 4) / 2 * (side + 8) ≤ 31332 * 185
-  line_small s =
-      let a : (k / side + 4) / 2 ≤ 31332 = omega (arith, div-le_self k side) in
-      let b : side + 8 ≤ 185 = omega arith in
-      mul-le-mul a b
-
-  pub line_fits : side ≤ 177 → (k / side + 4) / 2 * (side + 8) < 2 ^ 64
-  line_fits s = omega (arith, line_small s)
-
-  pub half_fits : 0 < side → side ≤ 177 → (k / side + 4) / 2 * (side + 8) + (k % side + 4) < 2 ^ 64
-  half_fits p s = omega (arith, line_small s, mod-lt k p)
-
-pub digit_fits : (k side : ℕ) → k < 65536 → k + k / side < 2 ^ 64
-digit_fits k side h = omega (arith, div-le_self k side)
 
 pub scan_end : (side : ℕ) (hs g h : List ℕ) (n m : ℕ) → h ≡ each_done n (λ k _. module_of side hs k) g → length h ≡ m → m ≤ n → h ≡ tabulate (length g) (module_of side hs)
 unfolding each

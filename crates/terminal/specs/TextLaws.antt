@@ -1,9 +1,8 @@
 -- Laws on texts that are written into lent memory one after the other. Where a law has several texts, the last one comes first,
 -- since a search then meets the memory that it writes over before it is asked for.
 -- Assumes nothing.
-use Rattle.std.specs.Prelude.{ℕ, ◌+◌, ◌≤◌, ◌<◌, List, [], ◌∷◌, ◌++◌, ◌≡◌, refl, length, get_or, set, take, drop}
-use Rattle.std.proofs.Common.{append_assoc, append-nil, sym, ap, ap₂, ◌∙◌, add-one, add-zero, arith, length-append, length-set, take-append-drop, drop-drop, take_at, drop_at, length-take-le}
-use Rattle.std.proofs.lemmas.List.{set_split}
+use Rattle.std.specs.Prelude.{ℕ, ◌+◌, ◌≤◌, List, [], ◌∷◌, ◌++◌, ◌≡◌, refl, length, get_or, take, drop}
+use Rattle.std.proofs.Common.{append_assoc, append-nil, sym, ap, ap₂, ◌∙◌, add-zero, arith, length-append, take-append-drop, drop-drop, take_at, drop_at, length-take-le}
 use Rattle.standard.specs.Numbers.{tabulate, join}
 use Rattle.laws.specs.Joins.{join_append}
 use Rattle.laws.specs.Lists.{from_append}
@@ -49,14 +48,6 @@ said_none o at =
       end = omega arith;
     }
 
-pub said_one : (o : List ℕ) (at b : ℕ) → at < length o → Said o at (b ∷ []) (set o at b) (at + 1)
-said_one o at b h =
-    record {
-      whole = set_split o at b h ∙ ap (λ (k : ℕ). take at o ++ (b ∷ drop k o)) (sym (add-one at));
-      size = length-set o at b;
-      end = refl;
-    }
-
 pub said_then : {a b c u w : List ℕ} {p q r : ℕ} → Said a p u b q → Said b q w c r → r ≤ length a → Said a p (u ++ w) c r
 said_then {a} {b} {c} {u} {w} {p} {q} {r} s t h =
     let e : r ≡ p + length u + length w = omega arith in
@@ -66,9 +57,6 @@ said_then {a} {b} {c} {u} {w} {p} {q} {r} s t h =
       size = t.size ∙ s.size;
       end = omega (arith, length-append u w);
     }
-
-pub said_set : {o u h : List ℕ} {at r : ℕ} (b : ℕ) → Said o at u h r → r < length o → Said o at (u ++ (b ∷ [])) (set h r b) (r + 1)
-said_set {o} {u} {h} {at} {r} b s l = said_then s (said_one h r b (omega (arith, s.size))) (omega arith)
 
 -- ---- texts that are joined
 
