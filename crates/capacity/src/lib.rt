@@ -95,7 +95,7 @@ pub fn get_alignment_pattern_positions(ver: Version) -> Positions
     let v = ver.value() as usize;
     let mut at = [0; 7];
     if v == 1 {
-        return Positions { count: 0, at: at };
+        return Positions { count: 0, at };
     }
     let numalign = v / 7 + 2;
     let step = alignment_step(ver);
@@ -105,6 +105,6 @@ pub fn get_alignment_pattern_positions(ver: Version) -> Positions
     }
     Positions {
         count: numalign,
-        at: at,
+        at,
     }
 }

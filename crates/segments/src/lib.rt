@@ -141,12 +141,12 @@ pub fn text_kind(text: &[u8]) -> TextKind
     ensures { text_kind_of result ≡ text_kind text.now }
 {
     if is_numeric(text) {
-        return TextKind::Numeric;
+        TextKind::Numeric
+    } else if is_alphanumeric(text) {
+        TextKind::Alphanumeric
+    } else {
+        TextKind::Byte
     }
-    if is_alphanumeric(text) {
-        return TextKind::Alphanumeric;
-    }
-    TextKind::Byte
 }
 
 // The set of all legal characters in alphanumeric mode,

@@ -75,14 +75,14 @@ pub fn make_eci(bb: &mut [u8], at: usize, assignval: u32) -> usize
     ensures { Appended bb.old bb.new at result (eci_bits assignval) }
 {
     if assignval < 128 {
-        return bits::append_bits(bb, at, assignval, 8);
-    }
-    if assignval < 16_384 {
+        bits::append_bits(bb, at, assignval, 8)
+    } else if assignval < 16_384 {
         let p = bits::append_bits(bb, at, 2, 2);
-        return bits::append_bits(bb, p, assignval, 14);
+        bits::append_bits(bb, p, assignval, 14)
+    } else {
+        let p = bits::append_bits(bb, at, 6, 3);
+        bits::append_bits(bb, p, assignval, 21)
     }
-    let p = bits::append_bits(bb, at, 6, 3);
-    bits::append_bits(bb, p, assignval, 21)
 }
 
 // Appends the payload of a segment, and returns the bit after it.

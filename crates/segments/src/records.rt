@@ -135,7 +135,7 @@ pub(crate) fn segment_of<'a>(text: &'a [u8], numbers: &[u64; 4]) -> Segment<'a>
     let [kind, start, len, assign] = *numbers;
     match TextKind::new(kind) {
         Some(kind) => Segment::Text {
-            kind: kind,
+            kind,
             chars: &text[start as usize..(start + len) as usize],
         },
         None => Segment::Eci(assign as u32),

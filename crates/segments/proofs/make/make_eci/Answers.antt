@@ -19,11 +19,11 @@ append_bits-requires-then-assignval-lt16384 c = (search rules, search (middle_se
 pub returns-then-assignval-lt16384 : goal.returns-then-assignval-lt16384
 returns-then-assignval-lt16384 c = search (middle_done, rules)
 
-pub append_bits-p-requires-2 : goal.append_bits-p-requires-2
-append_bits-p-requires-2 c = (search rules, search (large_first, rules))
+pub append_bits-p-requires-else-assignval-lt16384 : goal.append_bits-p-requires-else-assignval-lt16384
+append_bits-p-requires-else-assignval-lt16384 c = (search rules, search (large_first, rules))
 
-pub append_bits-requires-2 : goal.append_bits-requires-2
-append_bits-requires-2 c = (search rules, search (large_second, rules))
+pub append_bits-requires-else-assignval-lt16384 : goal.append_bits-requires-else-assignval-lt16384
+append_bits-requires-else-assignval-lt16384 c = (search rules, search (large_second, rules))
 
-pub returns : goal.returns
-returns c = search (large_done, rules)
+pub returns-else-assignval-lt16384 : goal.returns-else-assignval-lt16384
+returns-else-assignval-lt16384 c = search (large_done, rules)
