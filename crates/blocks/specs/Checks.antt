@@ -82,11 +82,6 @@ block_within {n} {s} {b} k i h =
     let a : (i + 1) * s ≤ n * s = mul-le-mul_right s (omega arith) in
     rw (← next_start s b i) (omega (arith, mul_comm s n))
 
-pub part_within : (n c i : ℕ) → i < n → i * c + c ≤ n * c
-part_within n c i h =
-    let a : (i + 1) * c ≤ n * c = mul-le-mul_right c (omega arith) in
-    omega (arith, add-mul i 1 c)
-
 -- ---- as the code has them
 
 -- a part that was lent and came back, as a contract has it

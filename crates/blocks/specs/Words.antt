@@ -3,7 +3,7 @@
 use Rattle.std.specs.Prelude.{ℕ, ◌+◌, ◌-◌, ◌*◌, ◌/◌, ◌%◌, ◌≤◌, ◌<◌, Bool, true, false, ◌≡◌, refl, length, take, drop, ltb}
 use mathlib.Core.List.{List, [], ◌++◌, append-nil}
 use Rattle.std.proofs.Math.Path.{sym}
-use Rattle.std.proofs.Common.{ap, ap₂, ◌∙◌, div-lt_iff_lt-mul, arith, length-append, length-take, length-drop, drop_of_length-le, ext_get_or, get_or-append-add, ltb-true, ltb-false}
+use Rattle.std.proofs.Common.{ap, ap₂, ◌∙◌, div-lt_iff_lt-mul, arith, length-append, length-take, length-drop, take_all, drop_of_length-le, ext_get_or, get_or-append-add, ltb-true, ltb-false}
 use Rattle.std.proofs.Math.Nat.{mod-lt, zero-add}
 use Rattle.std.proofs.Math.ListN.{get_or, get_or-append}
 use Rattle.std.proofs.Math.Seq.{take-append_seam, drop-append_seam}
@@ -105,9 +105,6 @@ all_words_lem v l xs o sh full size =
     (length-drop (length xs) o ∙ omega (arith, sh.whole))
     refl
 
-take_whole : (xs : List ℕ) (n : ℕ) → n ≡ length xs → take n xs ≡ xs
-take_whole xs n e = ap₂ (λ (k : ℕ) (t : List ℕ). take k t) e (sym (append-nil xs)) ∙ take-append_seam xs []
-
 -- two parts of one list, lent one after the other
 pub two_parts : (f g : ℕ → ℕ → ℕ) (d : ℕ) (o A Z : List ℕ) → A ≡ each f (take d o)
     → Z ≡ each g (take (length (A ++ drop d o) - d) (drop d (A ++ drop d o))) → d ≤ length o
@@ -117,6 +114,6 @@ two_parts f g d o A Z e h l =
     let t : take d (A ++ drop d o) ≡ A = ap (λ (k : ℕ). take k (A ++ drop d o)) (sym la) ∙ take-append_seam A (drop d o) in
     let r : drop d (A ++ drop d o) ≡ drop d o = ap (λ (k : ℕ). drop k (A ++ drop d o)) (sym la) ∙ drop-append_seam A (drop d o) in
     let n : length (A ++ drop d o) - d ≡ length (drop d o) = omega (arith, length-append A (drop d o), length-drop d o) in
-    let e_z : Z ≡ each g (drop d o) = h ∙ ap₂ (λ (k : ℕ) (s : List ℕ). each g (take k s)) n r ∙ ap (each g) (take_whole (drop d o) (length (drop d o)) refl) in
+    let e_z : Z ≡ each g (drop d o) = h ∙ ap₂ (λ (k : ℕ) (s : List ℕ). each g (take k s)) n r ∙ ap (each g) (take_all (length (drop d o)) (drop d o) (omega arith)) in
     let q : drop (length (A ++ drop d o) - d) (drop d (A ++ drop d o)) ≡ [] = ap₂ (λ (k : ℕ) (s : List ℕ). drop k s) n r ∙ drop_of_length-le (drop d o) {i = length (drop d o)} (omega arith) in
     ap₂ (λ (a b : List ℕ). a ++ b) (t ∙ e) (ap₂ (λ (a b : List ℕ). a ++ b) e_z q ∙ append-nil (each g (drop d o)))

@@ -94,9 +94,6 @@ unfolding padded
 length_padded c p h =
     length-append (scale c p) (zeros (32 - length p)) ∙ omega (arith, length_scale c p, length-replicate {A = ℕ} (32 - length p) 0)
 
-pub padded_start : (c : ℕ) (p o : List ℕ) → o ≡ wide p → length p ≤ 32 → (length o ≡ 32) × (o ≡ front 0 (padded c p) (wide p))
-padded_start c p o e few = (ap length e ∙ length_wide p few, e)
-
 pub padded_turn : (c : ℕ) (p o : List ℕ) (j v : ℕ) → o ≡ front j (padded c p) (wide p) → length p ≤ 32 → j < 32 → v ≡ times (get_or o j 0) c
     → set o j v ≡ front (j + 1) (padded c p) (wide p)
 padded_turn c p o j v e few h q =
@@ -214,10 +211,6 @@ front_step_moved low high r q b long same =
     (ext_get_or 0 (drop 32 q) (drop 32 r) (omega (arith, length-drop 32 q, length-drop 32 r))
     (λ j h. get_or-drop 32 q j 0 ∙ same (32 + j) 0 (omega arith) ∙ sym (get_or-drop 32 r j 0)))
     ∙ front_step_in low high r b
-
--- where the row of a byte's high half begins
-pub high_row : (f : ℕ) → f < 256 → f / 16 * 32 < 512
-high_row f h = omega arith
 
 -- 16 n, for n below 16
 sixteen_test : ℕ → Bool

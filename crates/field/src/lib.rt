@@ -57,6 +57,21 @@ impl<'a> Divisor<'a> {
             high: multiples(coefficients, 16),
         }
     }
+
+    // One step of polynomial division: takes in the coefficient b. The product of the divisor by a factor
+    // is the sum of its products by the factor's two halves.
+    fn divide_step(&self, rest: &mut [u8; 33], b: u8)
+        ensures { rest.new ≡ step_in self.now.low self.now.high rest.old b }
+    {
+        let factor = (b ^ rest[0]) as usize;
+        let l = factor % 16 * 32;
+        let h = factor / 16 * 32;
+        rest.copy_within(1..33, 0);
+        // By index: of what a `zip` over `iter_mut` writes, the proof would know nothing.
+        for j in 0usize..32 {
+            rest[j] ^= self.low[l + j] ^ self.high[h + j];
+        }
+    }
 }
 
 // The multiples by 0 to 15 of c times the divisor, one after the other, each in a row of 32 coefficients.
@@ -101,24 +116,9 @@ pub fn reed_solomon_compute_remainder(data: &[u8], divisor: &Divisor, out: &mut 
     let degree = divisor.coefficients.len();
     let mut rest: [u8; 33] = [0; 33];
     for b in data {
-        divide_step(&mut rest, &divisor.low, &divisor.high, *b);
+        divisor.divide_step(&mut rest, *b);
     }
     out.copy_from_slice(&rest[..degree]);
-}
-
-// One step of polynomial division: takes in the coefficient b. The product of the divisor by a factor
-// is the sum of its products by the factor's two halves.
-fn divide_step(rest: &mut [u8; 33], low: &[u8; 512], high: &[u8; 512], b: u8)
-    ensures { rest.new ≡ step_in low.now high.now rest.old b }
-{
-    let factor = (b ^ rest[0]) as usize;
-    let l = factor % 16 * 32;
-    let h = factor / 16 * 32;
-    rest.copy_within(1..33, 0);
-    // By index: of what a `zip` over `iter_mut` writes, the proof would know nothing.
-    for j in 0usize..32 {
-        rest[j] ^= low[l + j] ^ high[h + j];
-    }
 }
 
 // Returns the product of the two given field elements modulo GF(2^8/0x11D), by shifts and sums.

@@ -4,8 +4,8 @@ use Prim.Native.Nat.{ℕ}
 use mathlib.Core.Path.{◌≡◌, refl, ap, ◌∙◌}
 use native.Mathlib.Omega.{arith}
 use Rattle.standard.specs.Field.{times, power}
-use Rattle.field.specs.Generator.{times_root, power_suc, wide_at, wide_start, wide_length, wide_last, wide_turn, wide_end}
-use lib.ListN.{length, length-take, length-drop}
+use Rattle.field.specs.Generator.{times_root, power_suc, wide_at, wide_start, wide_last, wide_turn, wide_end}
+use lib.ListN.{length}
 use Rattle.field.proofs.reed_solomon_compute_divisor.Goals as goal
 
 pub loop-init : goal.loop-init
@@ -21,9 +21,6 @@ loop-preserved c =
       c.reed_solomon_multiply-root.ensures ∙ ap (λ (x : ℕ). times x 2) t.invariant.0 ∙ power_suc t.counter,
       c.times_root.ensures ∙ ap (λ (x : ℕ). times_root x t.wide) t.invariant.0 ∙ wide_turn t.counter t.wide t.invariant.1 (omega arith),
     )
-
-pub copy_from_slice-requires : goal.copy_from_slice-requires
-copy_from_slice-requires c = let t = c.loop in omega (arith, wide_length t.counter t.wide t.invariant.1 (omega arith), length-take {A = ℕ}, length-drop {A = ℕ})
 
 pub returns : goal.returns
 returns c =

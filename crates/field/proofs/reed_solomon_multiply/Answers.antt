@@ -1,11 +1,10 @@
 -- `field::reed_solomon_multiply` meets its contract.
 -- Assumes nothing.
-use Prim.Native.Nat.{suc, ◌-◌, ◌/◌, ◌^◌}
+use Prim.Native.Nat.{suc, ◌-◌}
 use mathlib.Core.Path.{◌≡◌, refl, ap, ◌∙◌}
 use native.Mathlib.Omega.{arith}
 use native.Mathlib.Nat.{div-one}
-use lib.Bits.{bit_and, mask_lt}
-use Rattle.field.specs.Times.{turn, bit_lt}
+use Rattle.field.specs.Times.{turn}
 use Rattle.std.proofs.Common.{rules}
 use Rattle.standard.specs.Field.{times, times_low}
 use Rattle.field.proofs.reed_solomon_multiply.Goals as goal
@@ -13,17 +12,6 @@ use Rattle.field.proofs.reed_solomon_multiply.Goals as goal
 pub loop-i-init : goal.loop-i-init
 unfolding times_low
 loop-i-init c = (search rules, refl)
-
-pub overflow_shr-z : goal.overflow_shr-z
-overflow_shr-z c = omega arith
-
-pub overflow_mul-z : goal.overflow_mul-z
-overflow_mul-z c =
-    let n = c.args.y / 2 ^ (c.loop-i.i - 1) in
-    record { fits = bit_lt (bit_and n 1) c.args.x (mask_lt n 1) c.ranges.x.fits }
-
-pub loop-i-smaller : goal.loop-i-smaller
-loop-i-smaller c = omega arith
 
 pub loop-i-preserved : goal.loop-i-preserved
 loop-i-preserved c =
