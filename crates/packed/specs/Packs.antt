@@ -1,7 +1,7 @@
 -- A line of a grid, packed word by word.
 -- Assumes nothing.
 use Rattle.std.specs.Prelude.{◌≡◌, refl, Bool, true, false, List, [], ◌∷◌, ◌++◌, ℕ, suc, min, ◌+◌, ◌-◌, ◌*◌, ◌%◌, ◌^◌, ◌≤◌, ◌<◌, length, get_or, ltb}
-use Rattle.std.proofs.Common.{sym, ap, ap₂, ◌∙◌, subst, mul_assoc, add_assoc, add-mul, pow-suc, lt_of_lt_of_le, one-mul, mod-lt, zero-lt-suc, arith, pow_mono, shl_exact, lit<}
+use Rattle.std.proofs.Common.{sym, ap, ap₂, ◌∙◌, subst, mul_assoc, add_assoc, add-mul, pow-suc, lt_of_lt_of_le, mod-lt, zero-lt-suc, arith, pow_mono}
 use Rattle.std.proofs.Math.Pow.{ones_split}
 use mir.Val.{bool_byte}
 use Rattle.standard.specs.Numbers.{one, from, tabulate}
@@ -137,6 +137,3 @@ mask_line k x y z ex ey ez =
     parts : (i j m : ℕ) → min k 64 ≡ i → min (k - 64) 64 ≡ j → k - 128 ≡ m → join3 x y z ≡ join3 (low i) (low j) (low m)
     parts i j m ei ej em =
         ap₂ (λ (a b : ℕ). join3 a b z) (ex ∙ ap low ei) (ey ∙ ap low ej) ∙ ap (join3 (low i) (low j)) (ez ∙ ap low em)
-
-pub shl_one : (k : ℕ) → k < 64 → 1 * 2 ^ k % 2 ^ 64 ≡ 2 ^ k
-shl_one k h = shl_exact {a = 1} 1 k 64 (lit< tt) (omega arith) ∙ one-mul (2 ^ k)

@@ -11,7 +11,7 @@ use Rattle.standard.specs.Numbers.{tabulate}
 use Rattle.standard.specs.Penalty.{row, column}
 use Rattle.laws.specs.Grid.{paint}
 use Rattle.modules.specs.Mask.{masked}
-use Rattle.penalty.specs.Lines.{colours, in_row, in_column}
+use Rattle.penalty.specs.Lines.{colours}
 use Rattle.packed.specs.Digits.{value}
 use Rattle.packed.specs.Words.{join3}
 use Rattle.packed.specs.Frame.{frame}
@@ -48,10 +48,6 @@ line Columns s g k = column s g k
 -- the words of line k are those of the grid
 abbrev pub LineHeld : Way → ℕ → List ℕ → List ℕ → ℕ → Type 0
 LineHeld w s g ws k = Holds s (start_of w s k) (step_of w s) g ws k
-
-pub in_line : (w : Way) (s k n : ℕ) → n ≡ s * s → k < s → (i : ℕ) → i < s → start_of w s k + i * step_of w s < n
-in_line Rows s k n = in_row s k n
-in_line Columns s k n = in_column s k n
 
 -- ---- a mask on a line
 

@@ -58,20 +58,20 @@ struct Sums {
 }
 
 // Goes through the rows of the masked grid once.
-fn rows_of<L: Strip>(grid: Candidate) -> Sums
-    requires { grid.side + 8 ≤ L.room }
-    ensures { RowSums grid.entry.side (paint grid.entry.side (masked grid.entry.msk) grid.entry.grid.now) result.cost result.same result.dark }
+fn rows_of<L: Strip>(candidate: &Candidate) -> Sums
+    requires { candidate.now.side + 8 ≤ L.room }
+    ensures { RowSums candidate.now.side (paint candidate.now.side (masked candidate.now.msk) candidate.now.grid.now) result.cost result.same result.dark }
 {
-    let side = grid.side;
+    let side = candidate.side;
     let full = L::mask(side + 8);
     let most = L::mask(side - 4);
     let pairs = L::mask(side - 1);
-    let mut last: L = grid.line(Way::Rows, 0);
+    let mut last: L = candidate.line(Way::Rows, 0);
     let mut cost = line_cost(last, full, most, side);
     let mut dark = last.count();
     let mut same: u32 = 0;
     for y in 1..side {
-        let next: L = grid.line(Way::Rows, y);
+        let next: L = candidate.line(Way::Rows, y);
         cost += line_cost(next, full, most, side);
         dark += next.count();
         same += square_count(last, next, pairs, side);
@@ -81,30 +81,30 @@ fn rows_of<L: Strip>(grid: Candidate) -> Sums
 }
 
 // Adjacent modules in column having same color, and finder-like patterns.
-fn columns_of<L: Strip>(grid: Candidate) -> u32
-    requires { grid.side + 8 ≤ L.room }
-    ensures { (result ≡ column_sum grid.entry.side (paint grid.entry.side (masked grid.entry.msk) grid.entry.grid.now)) × (result ≤ 6960 * grid.entry.side) }
+fn columns_of<L: Strip>(candidate: &Candidate) -> u32
+    requires { candidate.now.side + 8 ≤ L.room }
+    ensures { (result ≡ column_sum candidate.now.side (paint candidate.now.side (masked candidate.now.msk) candidate.now.grid.now)) × (result ≤ 6960 * candidate.now.side) }
 {
-    let side = grid.side;
+    let side = candidate.side;
     let full = L::mask(side + 8);
     let most = L::mask(side - 4);
     let mut result: u32 = 0;
     for x in 0..side {
-        let column: L = grid.line(Way::Columns, x);
+        let column: L = candidate.line(Way::Columns, x);
         result += line_cost(column, full, most, side);
     }
     result
 }
 
 // The score of a grid whose framed lines fit a kind of line.
-fn score<L: Strip>(grid: Candidate) -> u32
-    requires { grid.side + 8 ≤ L.room }
-    ensures { result ≡ penalty grid.entry.side (colours (paint grid.entry.side (masked grid.entry.msk) grid.entry.grid.now)) }
+fn score<L: Strip>(candidate: &Candidate) -> u32
+    requires { candidate.now.side + 8 ≤ L.room }
+    ensures { result ≡ penalty candidate.now.side (colours (paint candidate.now.side (masked candidate.now.msk) candidate.now.grid.now)) }
 {
-    let across = rows_of::<L>(grid);
-    let lines = across.cost + columns_of::<L>(grid);
+    let across = rows_of::<L>(candidate);
+    let lines = across.cost + columns_of::<L>(candidate);
     let same = PENALTY_N2 * across.same;
-    let total = (grid.side * grid.side) as u32;
+    let total = (candidate.side * candidate.side) as u32;
     lines + same + PENALTY_N4 * penalty::balance_of(across.dark, total)
 }
 
@@ -123,8 +123,8 @@ pub fn get_penalty_score(grid: &[u8], rows: &[u64], columns: &[u64], side: usize
         msk,
     };
     if side <= WORD_SIDE {
-        score::<u64>(candidate)
+        score::<u64>(&candidate)
     } else {
-        score::<Line>(candidate)
+        score::<Line>(&candidate)
     }
 }

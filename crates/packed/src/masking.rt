@@ -41,8 +41,8 @@ fn twelve_of(pattern: usize, k: usize) -> u64
 
 impl<'a> Candidate<'a> {
     // The packed rows or columns.
-    fn words(self, way: Way) -> &'a [u64]
-        ensures { result.now ≡ words_of way self.entry.rows.now self.entry.columns.now }
+    fn words(&self, way: Way) -> &'a [u64]
+        ensures { result.now ≡ words_of way self.now.rows.now self.now.columns.now }
     {
         match way {
             Way::Rows => self.rows,
@@ -52,9 +52,9 @@ impl<'a> Candidate<'a> {
 
     // Line k of the masked grid, framed. Line 8 has format bits and is packed anew, of the others module 8.
     #[inline(always)]
-    pub fn line<L: Strip>(self, way: Way, k: usize) -> L
-        requires { (k < self.side) × (self.side + 8 ≤ L.room) }
-        ensures { L.number result ≡ value (frame (line way self.entry.side (colours (paint self.entry.side (masked self.entry.msk) self.entry.grid.now)) k)) }
+    pub fn line<L: Strip>(&self, way: Way, k: usize) -> L
+        requires { (k < self.now.side) × (self.now.side + 8 ≤ L.room) }
+        ensures { L.number result ≡ value (frame (line way self.now.side (colours (paint self.now.side (masked self.now.msk) self.now.grid.now)) k)) }
     {
         let start = way.start(self.side, k);
         let step = way.step(self.side);

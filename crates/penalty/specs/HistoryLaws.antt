@@ -1,78 +1,16 @@
 -- What each return of the functions on a history of runs gives.
 -- Assumes nothing.
-use Rattle.std.specs.Prelude.{◌≡◌, Bool, ◌&&◌, ℕ, ◌+◌, ◌*◌, ◌≤◌, ◌<◌, leb, eqb}
+use Rattle.std.specs.Prelude.{◌≡◌, Bool, ℕ, ◌+◌, ◌≤◌, ◌<◌, eqb}
 use Rattle.std.proofs.Math.Path.{ap}
 use Rattle.std.proofs.Common.{◌∙◌}
 use mathlib.Core.List.{List, ◌∷◌}
 use Rattle.std.proofs.Math.Bool.{true, false, cond}
 use native.Mathlib.Omega.{arith}
 use Rattle.std.proofs.Math.ListN.{get_or}
-use borrow.Author.Tests.{eq-eqb, ne_eqb, lt-ltb, le-ltb, le-leb, lt-leb}
-use Rattle.standard.specs.Numbers.{one}
+use borrow.Author.Tests.{eq-eqb, ne_eqb}
 use Rattle.penalty.specs.declared.FinderPenalty.{FinderPenalty}
 use Rattle.penalty.specs.History.{six, push, patterns, ended, pushed}
 use Rattle.penalty.specs.Windows.{is}
-
--- ---- light on both sides
-
-module _ (far near n : ℕ) where
-  pub far_short : far < 4 * n → 0 ≡ one (leb (4 * n) far && leb n near)
-  far_short h = rw (lt-leb (4 * n) far h)
-
-  pub near_short : 4 * n ≤ far → near < n → 0 ≡ one (leb (4 * n) far && leb n near)
-  near_short h k = rw (le-leb (4 * n) far h, lt-leb n near k)
-
-  pub both_long : 4 * n ≤ far → n ≤ near → 1 ≡ one (leb (4 * n) far && leb n near)
-  both_long h k = rw (le-leb (4 * n) far h, le-leb n near k)
-
--- ---- the tests of a core
-
-module _ (h : List ℕ) where
-  pub no_unit : get_or h 1 0 ≡ 0 → 0 ≡ patterns h
-  unfolding patterns
-  no_unit a = rw (le-ltb 0 (get_or h 1 0) (omega arith))
-
-  pub not_second : (get_or h 1 0 ≡ 0 → ⊥) → (get_or h 2 0 ≡ get_or h 1 0 → ⊥) → 0 ≡ patterns h
-  unfolding patterns
-  not_second a b = rw (lt-ltb 0 (get_or h 1 0) (omega arith), ne_eqb (get_or h 2 0) (get_or h 1 0) b)
-
-  pub not_third : (get_or h 1 0 ≡ 0 → ⊥) → get_or h 2 0 ≡ get_or h 1 0 → (get_or h 3 0 ≡ 3 * get_or h 1 0 → ⊥) → 0 ≡ patterns h
-  unfolding patterns
-  not_third a b c = rw (lt-ltb 0 (get_or h 1 0) (omega arith), eq-eqb (get_or h 2 0) (get_or h 1 0) b, ne_eqb (get_or h 3 0) (3 * get_or h 1 0) c)
-
-  pub not_fourth : (get_or h 1 0 ≡ 0 → ⊥) → get_or h 2 0 ≡ get_or h 1 0 → get_or h 3 0 ≡ 3 * get_or h 1 0 → (get_or h 4 0 ≡ get_or h 1 0 → ⊥) → 0 ≡ patterns h
-  unfolding patterns
-  not_fourth a b c d =
-      rw (lt-ltb 0 (get_or h 1 0) (omega arith), eq-eqb (get_or h 2 0) (get_or h 1 0) b, eq-eqb (get_or h 3 0) (3 * get_or h 1 0) c, ne_eqb (get_or h 4 0) (get_or h 1 0) d)
-
-  pub not_fifth : (get_or h 1 0 ≡ 0 → ⊥) → get_or h 2 0 ≡ get_or h 1 0 → get_or h 3 0 ≡ 3 * get_or h 1 0 → get_or h 4 0 ≡ get_or h 1 0
-      → (get_or h 5 0 ≡ get_or h 1 0 → ⊥) → 0 ≡ patterns h
-  unfolding patterns
-  not_fifth a b c d e =
-      rw (
-        lt-ltb 0 (get_or h 1 0) (omega arith),
-        eq-eqb (get_or h 2 0) (get_or h 1 0) b,
-        eq-eqb (get_or h 3 0) (3 * get_or h 1 0) c,
-        eq-eqb (get_or h 4 0) (get_or h 1 0) d,
-        ne_eqb (get_or h 5 0) (get_or h 1 0) e,
-      )
-
-  pub a_core : (x y : ℕ)
-      → x ≡ one (leb (4 * get_or h 1 0) (get_or h 0 0) && leb (get_or h 1 0) (get_or h 6 0))
-      → y ≡ one (leb (4 * get_or h 1 0) (get_or h 6 0) && leb (get_or h 1 0) (get_or h 0 0))
-      → (get_or h 1 0 ≡ 0 → ⊥) → get_or h 2 0 ≡ get_or h 1 0 → get_or h 3 0 ≡ 3 * get_or h 1 0 → get_or h 4 0 ≡ get_or h 1 0 → get_or h 5 0 ≡ get_or h 1 0
-      → x + y ≡ patterns h
-  unfolding patterns
-  a_core x y p q a b c d e =
-      rw (
-        p,
-        q,
-        lt-ltb 0 (get_or h 1 0) (omega arith),
-        eq-eqb (get_or h 2 0) (get_or h 1 0) b,
-        eq-eqb (get_or h 3 0) (3 * get_or h 1 0) c,
-        eq-eqb (get_or h 4 0) (get_or h 1 0) d,
-        eq-eqb (get_or h 5 0) (get_or h 1 0) e,
-      )
 
 -- ---- a push
 

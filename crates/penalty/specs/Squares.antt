@@ -1,7 +1,7 @@
 -- Squares of one colour, and the balance of dark and light modules, as the loops find them.
 -- Assumes nothing.
 use Rattle.std.specs.Prelude.{◌≡◌, List, Bool, true, false, ◌&&◌, ℕ, suc, ◌+◌, ◌-◌, ◌*◌, ◌%◌, ◌≤◌, ◌<◌, leb, eqb, get_or}
-use Rattle.std.proofs.Common.{sym, ap, ◌∙◌, mul-le-mul, add-one, arith, eq-eqb, ne_eqb, le-leb}
+use Rattle.std.proofs.Common.{sym, ap, ◌∙◌, mul-le-mul, add-one, arith}
 use Rattle.std.proofs.lemmas.Bool.{lt-leb}
 use Rattle.standard.specs.Numbers.{one, least, sum, tabulate}
 use Rattle.standard.specs.Penalty.{module_of, row, column, line_cost, square, squares, balance, penalty}
@@ -9,19 +9,6 @@ use Rattle.penalty.specs.Lines.{colours, colour_at}
 use Rattle.penalty.specs.Windows.{is}
 
 -- ---- squares
-
-module _ (a b c d : ℕ) where
-  pub second_differs : (a ≡ b → ⊥) → 0 ≡ one (eqb a b && (eqb a c && eqb a d))
-  second_differs h = rw (ne_eqb a b h)
-
-  pub third_differs : a ≡ b → (a ≡ c → ⊥) → 0 ≡ one (eqb a b && (eqb a c && eqb a d))
-  third_differs h k = rw (eq-eqb a b h, ne_eqb a c k)
-
-  pub fourth_differs : a ≡ b → a ≡ c → (a ≡ d → ⊥) → 0 ≡ one (eqb a b && (eqb a c && eqb a d))
-  fourth_differs h k l = rw (eq-eqb a b h, eq-eqb a c k, ne_eqb a d l)
-
-  pub all_same : a ≡ b → a ≡ c → a ≡ d → 1 ≡ one (eqb a b && (eqb a c && eqb a d))
-  all_same h k l = rw (eq-eqb a b h, eq-eqb a c k, eq-eqb a d l)
 
 -- the four modules of a square, where row y begins at top and the next at bottom
 pub square_here : (g : List ℕ) (s x y top bottom r : ℕ) → top ≡ y * s → bottom ≡ top + s
@@ -55,22 +42,11 @@ abbrev fair : ℕ → ℕ → ℕ → Bool
 fair a t k = leb a ((k + 1) * t)
 
 module _ (a t k n : ℕ) where
-  pub least_here : k < n → a ≤ (k + 1) * t → k ≡ least k (n - k) (λ k. leb a ((k + 1) * t))
-  least_here h l =
-      sym (ap (λ (m : ℕ). least k m (fair a t)) (is (n - k) (suc (n - (k + 1))) (omega arith))
-      ∙ ap (λ (b : Bool). elim b [ true ↦ k | false ↦ least (suc k) (n - (k + 1)) (fair a t) ]) (le-leb a ((k + 1) * t) l))
-
   pub least_on : k < n → (k + 1) * t < a → least k (n - k) (λ k. leb a ((k + 1) * t)) ≡ least (k + 1) (n - (k + 1)) (λ k. leb a ((k + 1) * t))
   least_on h l =
       ap (λ (m : ℕ). least k m (fair a t)) (is (n - k) (suc (n - (k + 1))) (omega arith))
       ∙ ap (λ (b : Bool). elim b [ true ↦ k | false ↦ least (suc k) (n - (k + 1)) (fair a t) ]) (lt-leb a ((k + 1) * t) l)
       ∙ ap (λ (m : ℕ). least m (n - (k + 1)) (fair a t)) (sym (add-one k))
-
-  pub least_end : n ≤ k → k ≡ least k (n - k) (λ k. leb a ((k + 1) * t))
-  least_end h = sym (ap (λ (m : ℕ). least k m (fair a t)) (is (n - k) 0 (omega arith)))
-
-pub fits : (k t : ℕ) → k < 10 → t ≤ 31329 → (k + 1) * t ≤ 313290
-fits k t h l = let e : k + 1 ≤ 10 = omega arith in mul-le-mul e l
 
 -- ---- the sum of all
 

@@ -16,7 +16,7 @@ line_cost-result-requires g c = (search (column_framed, rules), search rules, se
 
 pub loop-x-preserved : goal.loop-x-preserved
 loop-x-preserved g c =
-    let a = c.args.grid in
+    let a = c.args.candidate.now in
     let l = c.loop-x in (
       omega arith,
       sum_next (λ (k : ℕ). line_cost a.side (column a.side (colours (paint a.side (masked a.msk) a.grid.now)) k)) _ _ _ l.invariant.1 (column_cost _ _ _ _ _ c.line-column.ensures c.line_cost-result.ensures.0),

@@ -11,4 +11,4 @@ use Rattle.packed.proofs.columns_of.Given as goal
 
 abbrev pub invariant-loop-x : goal.invariant-loop-x
 invariant-loop-x g l =
-    (l.x ≤ l.side) × (l.result ≡ sum (tabulate l.x (λ k. line_cost l.side (column l.side (colours (paint l.side (masked l.grid.msk) l.grid.grid.now)) k)))) × (l.result ≤ 6960 * l.x)
+    (l.x ≤ l.side) × (l.result ≡ sum (tabulate l.x (λ k. line_cost l.side (column l.side (colours (paint l.side (masked l.candidate.msk) l.candidate.grid.now)) k)))) × (l.result ≤ 6960 * l.x)

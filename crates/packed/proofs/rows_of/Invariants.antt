@@ -8,4 +8,4 @@ use Rattle.packed.proofs.rows_of.Given as goal
 
 abbrev pub invariant-loop-y : goal.invariant-loop-y
 invariant-loop-y g l =
-    Passed l.side (paint l.side (masked l.grid.msk) l.grid.grid.now) (l.y - 1) (g.L.Strip.number l.last) l.cost l.same l.dark × (1 ≤ l.y) × (l.y ≤ l.side) × (l.cost ≤ 6960 * l.y) × (l.same ≤ 192 * l.y) × (l.dark ≤ 192 * l.y)
+    Passed l.side (paint l.side (masked l.candidate.msk) l.candidate.grid.now) (l.y - 1) (g.L.Strip.number l.last) l.cost l.same l.dark × (1 ≤ l.y) × (l.y ≤ l.side) × (l.cost ≤ 6960 * l.y) × (l.same ≤ 192 * l.y) × (l.dark ≤ 192 * l.y)

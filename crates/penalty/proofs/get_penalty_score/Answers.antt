@@ -5,7 +5,6 @@ use Rattle.penalty.specs.Squares.{penalty_parts}
 use mathlib.Core.Path.{◌∙◌}
 use Rattle.penalty.specs.Lines.{colours, in_row, in_columns, rows_sum, columns_sum}
 use native.Mathlib.Omega.{arith}
-use Rattle.std.proofs.Common.{rules}
 use Rattle.penalty.proofs.get_penalty_score.Goals as goal
 
 pub overflow_cast-total : goal.overflow_cast-total

@@ -4,7 +4,7 @@ use Rattle.penalty.specs.declared.FinderPenalty.{FinderPenalty}
 use Rattle.penalty.specs.History.{pushed}
 use Rattle.penalty.specs.HistoryLaws.{size_kept, second_fits, newest_fits, ended_dark, ended_light}
 use Rattle.penalty.specs.Windows.{is}
-use Rattle.std.proofs.Common.{ℕ, ◌+◌, ◌<◌, get_or, sym, ap, ◌∙◌, subst, arith}
+use Rattle.std.proofs.Common.{◌+◌, ◌<◌, get_or, sym, ap, ◌∙◌, subst, arith}
 use Rattle.penalty.proofs.FinderPenalty.terminate_and_count.Goals as goal
 use Rattle.penalty.proofs.FinderPenalty.terminate_and_count.Goals.{then-currentruncolor, else-currentruncolor}
 
