@@ -29,6 +29,8 @@ pub struct Counts {
     pub text: usize,
 }
 
+// (The data and a bit of them stay two parameters: of a struct with both, each clause would say `c.entry.buf.now` and `c.entry.at`.)
+
 // A segment of the data: its mode, the bit at which its payload begins, its count of characters, its ECI number
 // and the bit after it.
 #[derive(Clone, Copy, PartialEq, Eq)]

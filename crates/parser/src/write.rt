@@ -29,8 +29,8 @@ fn write_group(kind: TextKind, x: u32, out: &mut [u8])
     ensures { out.new ≡ group_chars (text_kind_of kind) (length out.old) x }
 {
     let m = out.len();
-    for i in 0..m {
-        out[i] = segments::char_of(kind, digit_of(kind, x, m - 1 - i));
+    for (i, c) in out.iter_mut().enumerate() {
+        *c = segments::char_of(kind, digit_of(kind, x, m - 1 - i));
     }
 }
 
@@ -65,8 +65,8 @@ fn write_bytes(buf: &[u8], at: usize, out: &mut [u8])
     requires { (length buf.now ≤ 4096) × (8 * length out.old ≤ 8 * length buf.now - at) }
     ensures { out.new ≡ run_chars 2 (unpack buf.now) (length out.old) at (length out.old) }
 {
-    for i in 0..out.len() {
-        out[i] = bits::read_bits(buf, at + 8 * i, 8) as u8;
+    for (i, c) in out.iter_mut().enumerate() {
+        *c = bits::read_bits(buf, at + 8 * i, 8) as u8;
     }
 }
 

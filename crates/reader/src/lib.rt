@@ -50,28 +50,30 @@ pub struct Label {
     pub text: usize,
 }
 
+// What the format of a grid says.
+#[derive(Clone, Copy, PartialEq, Eq)]
+struct Format {
+    version: Version,
+    level: QrCodeEcc,
+    mask: Mask,
+}
+
 /*---- The label ----*/
 
 // Reads all codewords of a grid into all, which is zero and one byte longer, for the remainder modules; and the data codewords
 // into data. Work is to draw in.
 #[tactic(auto, using(crate::specs::Recovered::raw_small))]
-fn read_data(
-    grid: &[u8],
-    ver: Version,
-    ecl: QrCodeEcc,
-    mask: Mask,
-    work: &mut [u8],
-    all: &mut [u8],
-    data: &mut [u8],
-)
-    requires grid { Square grid.now (side ver.value) }
-    requires work { Square work.old (side ver.value) }
-    requires lengths { (length all.old ≡ raw_codewords ver.value + 1) × (length «data».old ≡ data_codewords ver.value (level_of ecl)) }
-    ensures all_after { all.new ≡ read_words ver.value (level_of ecl) mask.value grid.now all.old }
-    ensures data_after { «data».new ≡ data_of ver.value (level_of ecl) (take (raw_codewords ver.value) all.new) }
-    ensures work_after { work.new ≡ read_grid ver.value (level_of ecl) mask.value grid.now }
+fn read_data(grid: &[u8], format: Format, work: &mut [u8], all: &mut [u8], data: &mut [u8])
+    requires grid { Square grid.now (side format.version.value) }
+    requires work { Square work.old (side format.version.value) }
+    requires lengths { (length all.old ≡ raw_codewords format.version.value + 1) × (length «data».old ≡ data_codewords format.version.value (level_of format.level)) }
+    ensures all_after { all.new ≡ read_words format.version.value (level_of format.level) format.mask.value grid.now all.old }
+    ensures data_after { «data».new ≡ data_of format.version.value (level_of format.level) (take (raw_codewords format.version.value) all.new) }
+    ensures work_after { work.new ≡ read_grid format.version.value (level_of format.level) format.mask.value grid.now }
 {
-    modules::read_codewords(grid, work, ver, ecl, mask, all);
+    let ver = format.version;
+    let ecl = format.level;
+    modules::read_codewords(grid, work, ver, ecl, format.mask, all);
     let raw = all.len() - 1;
     blocks::data_words(ver, ecl, &all[0..raw], data);
 }
@@ -106,18 +108,11 @@ fn is_drawn(
 }
 
 // Parses data codewords strictly, and writes text and records where there is room.
-fn tell(
-    data: &[u8],
-    ver: Version,
-    ecl: QrCodeEcc,
-    mask: Mask,
-    text: &mut [u8],
-    records: &mut [u64],
-) -> Result<Label, Refusal>
-    requires { (length «data».now ≡ data_codewords ver.value (level_of ecl)) }
-    ensures { Tells ver.value (level_of ecl) mask.value «data».now text.old records.old result text.new records.new }
+fn tell(data: &[u8], format: Format, text: &mut [u8], records: &mut [u64]) -> Result<Label, Refusal>
+    requires { (length «data».now ≡ data_codewords format.version.value (level_of format.level)) }
+    ensures { Tells format.version.value (level_of format.level) format.mask.value «data».now text.old records.old result text.new records.new }
 {
-    let Ok(counts) = parser::count_all(data, ver) else {
+    let Ok(counts) = parser::count_all(data, format.version) else {
         return Err(Refusal::NoLabel);
     };
     if text.len() < counts.text {
@@ -126,11 +121,11 @@ fn tell(
     if records.len() / 4 < counts.records {
         return Err(Refusal::Records(counts.records));
     }
-    parser::write_all(data, ver, text, records);
+    parser::write_all(data, format.version, text, records);
     Ok(Label {
-        version: ver,
-        level: ecl,
-        mask,
+        version: format.version,
+        level: format.level,
+        mask: format.mask,
         records: counts.records,
         text: counts.text,
     })
@@ -139,26 +134,24 @@ fn tell(
 // Reads a grid at its version, level and mask.
 fn read_words(
     grid: &[u8],
-    ver: Version,
-    ecl: QrCodeEcc,
-    mask: Mask,
+    format: Format,
     text: &mut [u8],
     records: &mut [u64],
     work: &mut [u8],
     all: &mut [u8],
     data: &mut [u8],
 ) -> Result<Label, Refusal>
-    requires grid { Square grid.now (side ver.value) }
-    requires work { Square work.old (side ver.value) }
-    requires lengths { (all.old ≡ replicate (raw_codewords ver.value + 1) 0) × (length «data».old ≡ data_codewords ver.value (level_of ecl)) }
-    requires format { (level_of ecl ≡ read_level (side ver.value) grid.now) × (mask.value ≡ read_mask (side ver.value) grid.now) × Small ver.value grid.now }
+    requires grid { Square grid.now (side format.version.value) }
+    requires work { Square work.old (side format.version.value) }
+    requires lengths { (all.old ≡ replicate (raw_codewords format.version.value + 1) 0) × (length «data».old ≡ data_codewords format.version.value (level_of format.level)) }
+    requires format { (level_of format.level ≡ read_level (side format.version.value) grid.now) × (format.mask.value ≡ read_mask (side format.version.value) grid.now) × Small format.version.value grid.now }
     ensures { Looks grid.now text.old records.old result text.new records.new }
 {
-    read_data(grid, ver, ecl, mask, work, all, data);
-    if !is_drawn(grid, ver, ecl, data, all, work) {
+    read_data(grid, format, work, all, data);
+    if !is_drawn(grid, format.version, format.level, data, all, work) {
         return Err(Refusal::NoLabel);
     }
-    tell(data, ver, ecl, mask, text, records)
+    tell(data, format, text, records)
 }
 
 // Reads a grid of a version, with work to draw in.
@@ -174,17 +167,18 @@ fn read_square(
     requires small { Small ver.value grid.now }
     ensures { Looks grid.now text.old records.old result text.new records.new }
 {
-    let ecl = modules::read_level(grid, ver);
-    let mask = types::mask_at(modules::read_mask(grid, ver));
+    let format = Format {
+        version: ver,
+        level: modules::read_level(grid, ver),
+        mask: types::mask_at(modules::read_mask(grid, ver)),
+    };
     let raw = capacity::get_num_raw_data_modules(ver) / 8;
-    let len = capacity::get_num_data_codewords(ver, ecl);
+    let len = capacity::get_num_data_codewords(ver, format.level);
     let mut all: [u8; 3707] = [0; 3707];
     let mut data: [u8; 2956] = [0; 2956];
     read_words(
         grid,
-        ver,
-        ecl,
-        mask,
+        format,
         text,
         records,
         work,

@@ -31,8 +31,8 @@ fn pair_at(s: &[u8], i: usize) -> u16
 fn decode(line: &[u8], out: &mut [u8])
     requires { length out.old ≤ 16384 }
 {
-    for i in 0..out.len() {
-        out[i] = digit(byte_at(line, 2 * i)) * 16 + digit(byte_at(line, 2 * i + 1));
+    for (i, b) in out.iter_mut().enumerate() {
+        *b = digit(byte_at(line, 2 * i)) * 16 + digit(byte_at(line, 2 * i + 1));
     }
 }
 

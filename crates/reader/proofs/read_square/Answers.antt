@@ -21,7 +21,7 @@ read_words-requires c =
       work = c.requires.work;
       lengths = (
         raw_part ver.value _ c.get_num_raw_data_modules-raw.ensures ver.in_range.0 ver.in_range.1,
-        data_part ver.value _ c.read_level-ecl.result _ c.get_num_data_codewords-len.ensures ver.in_range.0 ver.in_range.1 (lit≤ tt),
+        data_part ver.value _ c.read_level.result _ c.get_num_data_codewords-len.ensures ver.in_range.0 ver.in_range.1 (lit≤ tt),
       );
-      format = (c.read_level-ecl.ensures, c.mask_at-mask.ensures ∙ number.ensures.0, c.requires.small);
+      format = (c.read_level.ensures, c.mask_at.ensures ∙ number.ensures.0, c.requires.small);
     }

@@ -9,18 +9,18 @@ use Rattle.reader.specs.Recovered.{looks_none, looks_told}
 use Rattle.reader.specs.Drawn.{zeros_long, data_long, data_read_lem, told_drawn}
 use Rattle.reader.proofs.read_words.Goals as goal
 
-pub read_data-requires : goal.read_data-requires
-read_data-requires c = record { grid = search rules; work = search rules; lengths = (search (zeros_long, rules), search rules) }
+pub read_data-requires-clause-lengths : goal.read_data-requires-clause-lengths
+read_data-requires-clause-lengths c = (search (zeros_long, rules), search rules)
 
-pub is_drawn-requires : goal.is_drawn-requires
-is_drawn-requires c = record { work = (search rules, search rules); lengths = (zeros_long _ _ _ c.read_data.auto.all c.requires.lengths.0, search rules) }
+pub is_drawn-requires-clause-lengths : goal.is_drawn-requires-clause-lengths
+is_drawn-requires-clause-lengths c = (zeros_long _ _ _ c.read_data.auto.all c.requires.lengths.0, search rules)
 
 pub returns-then-not-is_drawn : goal.returns-then-not-is_drawn
 returns-then-not-is_drawn c =
     let format = c.requires.format in
     let read = c.read_data.ensures in
     looks_none _ _ _ _ _ c.requires.grid.size format.0 format.1 (data_read_lem _ _ _ _ _ _ _ read.all_after c.requires.lengths.0 read.data_after) _
-    (told_drawn _ _ _ _ _ _ _ read.all_after c.requires.lengths.0 read.data_after _ _ read.work_after (c.read_data.auto.work ∙ c.requires.work.size) c.is_drawn.ensures c.requires.grid.size format.2 c.args.ver.in_range.0 c.args.ver.in_range.1 (omega (arith, level_le c.args.ecl)))
+    (told_drawn _ _ _ _ _ _ _ read.all_after c.requires.lengths.0 read.data_after _ _ read.work_after (c.read_data.auto.work ∙ c.requires.work.size) c.is_drawn.ensures c.requires.grid.size format.2 c.args.format.version.in_range.0 c.args.format.version.in_range.1 (omega (arith, level_le c.args.format.level)))
     _ _ (ap not c.if-not-is_drawn.true)
 
 pub tell-requires : goal.tell-requires
@@ -31,5 +31,5 @@ returns c =
     let format = c.requires.format in
     let read = c.read_data.ensures in
     looks_told _ _ _ _ _ c.requires.grid.size format.0 format.1 (data_read_lem _ _ _ _ _ _ _ read.all_after c.requires.lengths.0 read.data_after) _
-    (told_drawn _ _ _ _ _ _ _ read.all_after c.requires.lengths.0 read.data_after _ _ read.work_after (c.read_data.auto.work ∙ c.requires.work.size) c.is_drawn.ensures c.requires.grid.size format.2 c.args.ver.in_range.0 c.args.ver.in_range.1 (omega (arith, level_le c.args.ecl)))
-    c.args.ecl _ _ _ _ _ c.tell.ensures (ap not c.if-not-is_drawn.false) c.args.ver.in_range.0 c.args.ver.in_range.1 refl c.args.mask.in_range
+    (told_drawn _ _ _ _ _ _ _ read.all_after c.requires.lengths.0 read.data_after _ _ read.work_after (c.read_data.auto.work ∙ c.requires.work.size) c.is_drawn.ensures c.requires.grid.size format.2 c.args.format.version.in_range.0 c.args.format.version.in_range.1 (omega (arith, level_le c.args.format.level)))
+    c.args.format.level _ _ _ _ _ c.tell.ensures (ap not c.if-not-is_drawn.false) c.args.format.version.in_range.0 c.args.format.version.in_range.1 refl c.args.format.mask.in_range

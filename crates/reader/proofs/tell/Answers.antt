@@ -10,7 +10,7 @@ use Rattle.bits.specs.Bytes.{bytes_of}
 use Rattle.reader.proofs.tell.Goals as goal
 
 pub count_all-requires : goal.count_all-requires
-count_all-requires c = data_small _ _ _ c.requires c.args.ver.in_range.0 c.args.ver.in_range.1
+count_all-requires c = data_small _ _ _ c.requires c.args.format.version.in_range.0 c.args.format.version.in_range.1
 
 pub returns-in_default : goal.returns-in_default
 returns-in_default c = record { at = λ z. told_bad _ _ _ _ _ _ z _ c.count_all.ensures _ c.in_default.is; rest = refl }
@@ -30,7 +30,7 @@ returns-then-records-counts c =
 pub write_all-requires : goal.write_all-requires
 write_all-requires c =
     let counts = c.count_all in
-    (data_small _ _ _ c.requires c.args.ver.in_range.0 c.args.ver.in_range.1, has_room _ _ _ _ _ counts.ensures c.in-Ok.is c.if-text-counts.false (omega (arith, c.if-records-counts.false)))
+    (data_small _ _ _ c.requires c.args.format.version.in_range.0 c.args.format.version.in_range.1, has_room _ _ _ _ _ counts.ensures c.in-Ok.is c.if-text-counts.false (omega (arith, c.if-records-counts.false)))
 
 pub returns : goal.returns
 returns c =

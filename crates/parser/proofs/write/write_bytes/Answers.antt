@@ -8,8 +8,8 @@ use Rattle.parser.proofs.write.write_bytes.Goals as goal
 pub loop-i-init : goal.loop-i-init
 loop-i-init c = (refl, omega arith, refl)
 
-pub overflow_cast-out : goal.overflow_cast-out
-overflow_cast-out c = record { fits = byte_lt _ _ _ c.read_bits.ensures (omega arith) }
+pub overflow_cast-c : goal.overflow_cast-c
+overflow_cast-c c = record { fits = byte_lt _ _ _ c.read_bits.ensures (omega arith) }
 
 pub loop-i-preserved : goal.loop-i-preserved
 loop-i-preserved c = (byte_next _ _ _ _ _ _ _ c.loop-i.invariant.0 c.read_bits.ensures c.loop-i-test.true c.requires.1 refl, omega arith, search rules)
