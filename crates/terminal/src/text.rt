@@ -124,7 +124,8 @@ fn escape_byte(out: &mut Text, c: u8)
 // Puts a text, escaped, behind another.
 pub fn escape(out: &mut Text, text: &[u8])
     requires { HasRoom out.old (4 * length text.now) }
-    ensures { Adds out.old (escaped text.now) out.new }
+    ensures said { Adds out.old (escaped text.now) out.new }
+    ensures bound { HasRoom out.new 0 }
 {
     for c in text {
         escape_byte(out, *c);

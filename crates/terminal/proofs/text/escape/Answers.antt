@@ -12,5 +12,5 @@ loop-c-preserved c =
     let i = c.loop-c.invariant in
     ((escape_next c.args.text.now _ _ _ _ _ _ c.loop-c.c-index c.escape_byte.ensures.said.0 i.0.0 (omega arith), cc), omega arith)
 
-pub returns : goal.returns
-returns c = search (escape_end, rules)
+pub returns-clause-said : goal.returns-clause-said
+returns-clause-said c = search (escape_end, rules)
