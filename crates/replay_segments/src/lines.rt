@@ -4,7 +4,6 @@ ghost use Rattle.std.specs.Prelude.{◌≡◌, ◌<◌, ◌≤◌, length, IfSom
 use listing::decimal;
 use std::io::Read;
 use streams::{read_byte, read_full};
-use types::QrCodeEcc;
 
 // A digit of a line; 0 for any other character.
 pub(crate) fn digit(c: u8) -> u8
@@ -24,16 +23,6 @@ pub(crate) fn six(line: &[u8; 24], at: usize) -> u32
         n = n * 10 + u32::from(digit(*c));
     }
     n
-}
-
-// The level of a digit of a line.
-pub(crate) fn level(c: u8) -> QrCodeEcc {
-    match digit(c) {
-        0 => QrCodeEcc::Low,
-        1 => QrCodeEcc::Medium,
-        2 => QrCodeEcc::Quartile,
-        _ => QrCodeEcc::High,
-    }
 }
 
 // Reads a line of 24 bytes; zeros at the end of the input.

@@ -10,7 +10,7 @@ ghost use Rattle.segments.specs.Records.{parts_of};
 
 mod lines; // the lines of the list
 
-use lines::{digit, level, read_line, read_part, read_records, same_bits, six};
+use lines::{digit, read_line, read_part, read_records, same_bits, six};
 use std::io::Read;
 use types::{QrCodeEcc, TextKind, Version};
 
@@ -107,7 +107,8 @@ fn list_case(input: &mut impl Read, line: &[u8; 24]) -> Option<bool> {
     let total = total_of(&end)?;
     let text = text.get(..n)?;
     let records = records.get(..4 * count as usize)?;
-    Some(list_same(text, records, ver, level(line[1]), total, words))
+    let ecl = listing::level(b'0' + digit(line[1]));
+    Some(list_same(text, records, ver, ecl, total, words))
 }
 
 // How many cases there were of each sort, and how many differ.

@@ -5,6 +5,7 @@ use Rattle.types.specs.Numbers.{level_of}
 use Rattle.bits.specs.Bytes.{bytes_of}
 use Rattle.types.specs.Laws.{level_le}
 use Rattle.segments.specs.Records.{parts_of}
+use Rattle.std.proofs.Common.{rules}
 use Rattle.segments.specs.Words.{lengths_fit_lem, capacity_fits, stream_free, len_inside, end_free, pads_inside, words_done}
 use Rattle.segments.proofs.codewords.data_codewords.Goals as goal
 
@@ -43,4 +44,4 @@ returns c =
     words_done a.ver.value (level_of a.ecl) ss a.bb.now c.requires.0 c.requires.2 a.ver.in_range.0 a.ver.in_range.1 (level_le a.ecl) c.get_num_data_codewords-datacapacitybits.result c.get_num_data_codewords-datacapacitybits.ensures
     c.append_segments-len.new.bb c.append_segments-len.result c.append_segments-len.ensures
     c.add_terminator-end.new.bb c.add_terminator-end.result c.add_terminator-end.ensures
-    c.add_pad_bytes.new.bb (bytes_of c.add_terminator-end.new.bb (λ i b. (c.slice_known-3-1.given i).fits)) c.add_pad_bytes.ensures
+    c.add_pad_bytes.new.bb (bytes_of c.add_terminator-end.new.bb (λ i b. search rules)) c.add_pad_bytes.ensures
