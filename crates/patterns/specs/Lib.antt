@@ -8,3 +8,4 @@ pub mod Words
 pub mod Centres
 pub mod AlignmentLayer
 pub mod Everything
+pub mod Painted

@@ -1,11 +1,12 @@
 // Alignment patterns.
-ghost use Rattle.std.specs.Prelude.{◌≡◌, ◌+◌, ◌<◌, ◌≤◌};
+ghost use Rattle.std.specs.Prelude.{◌≡◌, ◌<◌};
 ghost use Rattle.standard.specs.Sizes.{side};
-ghost use Rattle.laws.specs.Grid.{Square, paint};
 ghost use Rattle.patterns.specs.Layers.{alignments};
 ghost use Rattle.patterns.specs.Shapes.{alignment_square};
 ghost use Rattle.patterns.specs.Centres.{corner};
+ghost use Rattle.patterns.specs.Painted.{Paints};
 
+use super::Canvas;
 use types::Version;
 
 // Whether the pattern (i, j) would fall on one of the three finder corners.
@@ -17,28 +18,28 @@ fn on_corner(numalign: usize, i: usize, j: usize) -> bool
     (i == 0 && (j == 0 || j + 1 == numalign)) || (i + 1 == numalign && j == 0)
 }
 
-// Draws a 5*5 alignment pattern, with the center module
-// at (x, y). All modules must be in bounds.
-fn draw_alignment_pattern(grid: &mut [u8], size: usize, x: usize, y: usize)
-    requires square { Square grid.old size }
-    requires le_x { (2 ≤ x) × (2 ≤ y) × (x + 2 < size) × (y + 2 < size) }
-    ensures { grid.new ≡ paint size (alignment_square x y) grid.old }
-{
-    super::draw_square(grid, size, x, y, 2, |dist| dist != 1);
-}
+impl Canvas<'_> {
+    // Draws a 5*5 alignment pattern, with the center module
+    // at (x, y). All modules must be in bounds.
+    fn draw_alignment_pattern(&mut self, x: usize, y: usize)
+        requires { (x < self.old.size) × (y < self.old.size) }
+        ensures { Paints self.old self.new (alignment_square x y) }
+    {
+        self.draw_square(x, y, 2, |dist| dist != 1);
+    }
 
-// Draws numerous alignment patterns, at the positions of the given version.
-pub fn draw_alignment_patterns(grid: &mut [u8], ver: Version)
-    requires square { Square grid.old (side ver.value) }
-    ensures { grid.new ≡ paint (side ver.value) (alignments ver.value) grid.old }
-{
-    let size = super::size_of(ver);
-    let alignpatpos = capacity::get_alignment_pattern_positions(ver);
-    for i in 0..alignpatpos.count {
-        for j in 0..alignpatpos.count {
-            // Don't draw on the three finder corners
-            if !on_corner(alignpatpos.count, i, j) {
-                draw_alignment_pattern(grid, size, alignpatpos.at[i], alignpatpos.at[j]);
+    // Draws numerous alignment patterns, at the positions of the given version.
+    pub fn draw_alignment_patterns(&mut self, ver: Version)
+        requires { self.old.size ≡ side ver.value }
+        ensures { Paints self.old self.new (alignments ver.value) }
+    {
+        let alignpatpos = capacity::get_alignment_pattern_positions(ver);
+        for i in 0..alignpatpos.count {
+            for j in 0..alignpatpos.count {
+                // Don't draw on the three finder corners
+                if !on_corner(alignpatpos.count, i, j) {
+                    self.draw_alignment_pattern(alignpatpos.at[i], alignpatpos.at[j]);
+                }
             }
         }
     }

@@ -1,14 +1,16 @@
 // Format and version bits: words with their check bits, and drawing them.
-ghost use Rattle.std.specs.Prelude.{◌≡◌, ℕ, ◌+◌, ◌^◌, ◌<◌, ◌≤◌};
+ghost use Rattle.std.specs.Prelude.{◌≡◌, ℕ, ◌+◌, ◌%◌, ◌^◌, ◌<◌, ◌≤◌};
+ghost use Rattle.standard.specs.Numbers.{bit, one};
 ghost use Rattle.standard.specs.Sizes.{side};
 ghost use Rattle.standard.specs.Format.{checked, format_word, version_word};
-ghost use Rattle.laws.specs.Grid.{Square, paint};
 ghost use Rattle.laws.specs.Dots.{dots};
 ghost use Rattle.types.specs.Numbers.{level_of};
 ghost use Rattle.patterns.specs.Layers.{formats, versions};
 ghost use Rattle.patterns.specs.FormatPlaces.{first_x, first_y, second_x, second_y, word_bit, Places};
 ghost use Rattle.patterns.specs.Words.{Reduces};
+ghost use Rattle.patterns.specs.Painted.{Paints};
 
+use super::Canvas;
 use types::{Mask, QrCodeEcc, Version};
 
 // The check bits of a word: what is left of it by a generator of degree w + 1.
@@ -68,49 +70,51 @@ fn second_place(size: usize, i: usize) -> (usize, usize)
     }
 }
 
-// Draws a copy of the format bits, bit i at the place at(i).
-fn draw_copy<F: Fn(usize) -> (usize, usize)>(grid: &mut [u8], size: usize, bits: u32, at: F)
-    requires square { Square grid.old size }
-    requires callable { (i : ℕ) → i < 15 → F.pre at i }
-    requires inside { (i : ℕ) (p : ℕ × ℕ) → i < 15 → F.post at i p → (p.0 < size) × (p.1 < size) }
-    ensures { (px py : ℕ → ℕ) → Places (F.post at) px py → grid.new ≡ paint size (dots 15 px py (word_bit bits)) grid.old }
+// Returns true iff the i'th bit of x is set to 1.
+fn get_bit(x: u32, i: usize) -> bool
+    requires { i < 18 }
+    ensures { one result ≡ bit x i }
 {
-    for i in 0..15 {
-        let (x, y) = at(i);
-        super::set_function_module(grid, size, x, y, super::get_bit(bits, i));
-    }
+    (x >> i) % 2 == 1
 }
 
-// Draws two copies of the format bits (with its own error correction code)
-// based on the given mask and error correction level.
-pub fn draw_format_bits(grid: &mut [u8], ver: Version, ecl: QrCodeEcc, mask: Mask)
-    requires square { Square grid.old (side ver.value) }
-    ensures { grid.new ≡ paint (side ver.value) (formats (side ver.value) (format_word (level_of ecl) mask.value)) grid.old }
-{
-    let bits = format_word(ecl, mask);
-    let size = super::size_of(ver);
-    draw_copy(grid, size, bits, first_place);
-    draw_copy(grid, size, bits, |i| second_place(size, i));
-    super::set_function_module(grid, size, 8, size - 8, true); // Always dark
-}
-
-// Draws two copies of the version bits (with its own error correction code), iff 7 <= version <= 40.
-pub fn draw_version(grid: &mut [u8], ver: Version)
-    requires square { Square grid.old (side ver.value) }
-    ensures { grid.new ≡ paint (side ver.value) (versions ver.value) grid.old }
-{
-    if ver.value() < 7 {
-        return;
+impl Canvas<'_> {
+    // Draws a copy of the format bits, bit i at the place at(i).
+    fn draw_copy<F: Fn(usize) -> (usize, usize)>(&mut self, bits: u32, at: F)
+        requires callable { (i : ℕ) → i < 15 → F.pre at i }
+        requires inside { (i : ℕ) (p : ℕ × ℕ) → i < 15 → F.post at i p → (p.0 < self.old.size) × (p.1 < self.old.size) }
+        ensures { (px py : ℕ → ℕ) → Places (F.post at) px py → Paints self.old self.new (dots 15 px py (word_bit bits)) }
+    {
+        for i in 0..15 {
+            let (x, y) = at(i);
+            self.set_function_module(x, y, get_bit(bits, i));
+        }
     }
-    let bits = version_word(ver);
-    let size = super::size_of(ver);
-    for i in 0..18 {
-        super::set_twin_modules(
-            grid,
-            size,
-            size - 11 + i % 3,
-            i / 3,
-            super::get_bit(bits, i),
-        );
+
+    // Draws two copies of the format bits, and the module that is always dark.
+    pub fn draw_format(&mut self, ver: Version, ecl: QrCodeEcc, mask: Mask)
+        requires { self.old.size ≡ side ver.value }
+        ensures { Paints self.old self.new (formats (side ver.value) (format_word (level_of ecl) mask.value)) }
+    {
+        let size = self.size;
+        let bits = format_word(ecl, mask);
+        self.draw_copy(bits, first_place);
+        self.draw_copy(bits, |i| second_place(size, i));
+        self.set_function_module(8, size - 8, true); // Always dark
+    }
+
+    // Draws two copies of the version bits (with its own error correction code), iff 7 <= version <= 40.
+    pub fn draw_version(&mut self, ver: Version)
+        requires { self.old.size ≡ side ver.value }
+        ensures { Paints self.old self.new (versions ver.value) }
+    {
+        if ver.value() < 7 {
+            return;
+        }
+        let size = self.size;
+        let bits = version_word(ver);
+        for i in 0..18 {
+            self.set_twin_modules(size - 11 + i % 3, i / 3, get_bit(bits, i));
+        }
     }
 }

@@ -2,7 +2,7 @@
 -- Assumes nothing.
 use Rattle.std.proofs.Common.{rules, not, eqb}
 use Rattle.patterns.specs.Shapes.{square, alignment_square}
-use Rattle.patterns.proofs.alignment.draw_alignment_pattern.Goals as goal
+use Rattle.patterns.proofs.canvas.Canvas.draw_alignment_pattern.Goals as goal
 
 pub returns : goal.returns
 unfolding square alignment_square

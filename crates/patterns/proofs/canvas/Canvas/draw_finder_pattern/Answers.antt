@@ -2,7 +2,7 @@
 -- Assumes nothing.
 use Rattle.std.proofs.Common.{rules, not, ◌||◌, eqb}
 use Rattle.patterns.specs.Shapes.{square, finder}
-use Rattle.patterns.proofs.draw_finder_pattern.Goals as goal
+use Rattle.patterns.proofs.canvas.Canvas.draw_finder_pattern.Goals as goal
 
 pub returns : goal.returns
 unfolding square finder
