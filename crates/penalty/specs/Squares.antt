@@ -1,7 +1,7 @@
 -- Squares of one colour, and the balance of dark and light modules, as the loops find them.
 -- Assumes nothing.
 use Rattle.std.specs.Prelude.{◌≡◌, List, Bool, true, false, ◌&&◌, ℕ, suc, ◌+◌, ◌-◌, ◌*◌, ◌%◌, ◌≤◌, ◌<◌, leb, eqb, get_or, length, take, drop}
-use Rattle.std.proofs.Common.{sym, ap, ◌∙◌, mul-le-mul, add-one, arith}
+use Rattle.std.proofs.Common.{sym, ap, ◌∙◌, add-one, arith}
 use Rattle.std.proofs.lemmas.Bool.{lt-leb}
 use Rattle.std.proofs.lemmas.List.{get_or-take, get_or-drop, length-drop}
 use Rattle.standard.specs.Numbers.{one, least, sum, tabulate}
@@ -49,13 +49,6 @@ next_window g rest more w base i s n en l ew em size here = (
 
     at : (k : ℕ) → k < 2 → get_or w k 0 ≡ get_or g (base + i + k) 0
     at k h = ap (λ (xs : List ℕ). get_or xs k 0) ew ∙ get_or-take n rest k 0 (omega arith) ∙ here k (omega arith)
-
--- both rows lie in the grid
-pub two_rows : (s y n : ℕ) → n ≡ s * s → y + 1 < s → y * s + s + s ≤ n
-two_rows s y n e l =
-    let h : suc (suc y) ≤ s = omega arith in
-    let k : s ≤ s = omega arith in
-    omega (arith, mul-le-mul h k)
 
 -- ---- balance
 
