@@ -51,6 +51,7 @@ impl<'a> Candidate<'a> {
     }
 
     // Line k of the masked grid, framed. Line 8 has format bits and is packed anew, of the others module 8.
+    // Inlined, so that the way is known where the lines are gone through.
     #[inline(always)]
     pub fn line<L: Strip>(&self, way: Way, k: usize) -> L
         requires { (k < self.now.side) × (self.now.side + 8 ≤ L.room) }

@@ -22,6 +22,7 @@ pub fn digit_of(byte: u8, free: bool) -> u64
 }
 
 // n modules of a line of a grid in a word, from module first on: module i stands at start + i * step.
+// By index: `skip`, `step_by`, `take` and `rev` in a chain would say no more plainly which byte is read.
 pub fn pack_word(grid: &[u8], start: usize, step: usize, first: usize, n: usize, free: bool) -> u64
     requires { (n ≤ 64) × (first ≤ 200) × ((i : ℕ) → first ≤ i → i < first + n → start + i * step < length grid.now) }
     ensures { result ≡ value (from first n (digit_at free grid.now start step)) }
@@ -34,6 +35,7 @@ pub fn pack_word(grid: &[u8], start: usize, step: usize, first: usize, n: usize,
 }
 
 // Packs every line of a grid, six words a line: three of its colours and three of its data modules.
+// Inlined, so that the way is known where the modules are gone through.
 #[inline(always)]
 pub fn pack_lines(way: Way, grid: &[u8], side: usize, words: &mut [u64])
     requires { (side ≤ 177) × (length grid.now ≡ side * side) × (length words.old ≡ 6 * side) }

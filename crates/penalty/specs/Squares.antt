@@ -1,8 +1,9 @@
 -- Squares of one colour, and the balance of dark and light modules, as the loops find them.
 -- Assumes nothing.
-use Rattle.std.specs.Prelude.{◌≡◌, List, Bool, true, false, ◌&&◌, ℕ, suc, ◌+◌, ◌-◌, ◌*◌, ◌%◌, ◌≤◌, ◌<◌, leb, eqb, get_or}
-use Rattle.std.proofs.Common.{sym, ap, ◌∙◌, mul-le-mul, add-one, arith}
+use Rattle.std.specs.Prelude.{◌≡◌, List, Bool, true, false, ◌&&◌, ℕ, suc, ◌+◌, ◌-◌, ◌*◌, ◌%◌, ◌≤◌, ◌<◌, leb, eqb, get_or, length, take, drop}
+use Rattle.std.proofs.Common.{sym, ap, ◌∙◌, add-one, arith}
 use Rattle.std.proofs.lemmas.Bool.{lt-leb}
+use Rattle.std.proofs.lemmas.List.{get_or-take, get_or-drop, length-drop}
 use Rattle.standard.specs.Numbers.{one, least, sum, tabulate}
 use Rattle.standard.specs.Penalty.{module_of, row, column, line_cost, square, squares, balance, penalty}
 use Rattle.penalty.specs.Lines.{colours, colour_at}
@@ -29,12 +30,25 @@ square_here g s x y top bottom r e f q =
       is (suc y * s + suc x) (bottom + x + 1) (omega arith),
     ))
 
--- both rows lie in the grid
-pub two_rows : (s y n : ℕ) → n ≡ s * s → y + 1 < s → y * s + s + s ≤ n
-two_rows s y n e l =
-    let h : suc (suc y) ≤ s = omega arith in
-    let k : s ≤ s = omega arith in
-    omega (arith, mul-le-mul h k)
+-- a row's neighbours: rest is what is left of it after i modules, w its first two, and more what is left then
+pub next_window : (g rest more w : List ℕ) (base i s n : ℕ) → n ≡ 2 → n ≤ length rest → w ≡ take n rest → more ≡ drop 1 rest → length rest + i ≡ s
+    → ((k : ℕ) → k < length rest → get_or rest k 0 ≡ get_or g (base + i + k) 0)
+    → (get_or w 0 0 ≡ get_or g (base + i) 0) × (get_or w 1 0 ≡ get_or g (base + i + 1) 0) × (length more + (i + 1) ≡ s)
+    × ((k : ℕ) → k < length more → get_or more k 0 ≡ get_or g (base + (i + 1) + k) 0)
+next_window g rest more w base i s n en l ew em size here = (
+  at 0 (omega arith) ∙ ap (λ (m : ℕ). get_or g m 0) (is (base + i + 0) (base + i) (omega arith)),
+  at 1 (omega arith),
+  omega (arith, left),
+  λ k h.
+      ap (λ (xs : List ℕ). get_or xs k 0) em ∙ get_or-drop 1 rest k 0 ∙ here (1 + k) (omega (arith, left))
+      ∙ ap (λ (m : ℕ). get_or g m 0) (is (base + i + (1 + k)) (base + (i + 1) + k) (omega arith)),
+)
+  where
+    left : length more ≡ length rest - 1
+    left = ap length em ∙ length-drop 1 rest
+
+    at : (k : ℕ) → k < 2 → get_or w k 0 ≡ get_or g (base + i + k) 0
+    at k h = ap (λ (xs : List ℕ). get_or xs k 0) ew ∙ get_or-take n rest k 0 (omega arith) ∙ here k (omega arith)
 
 -- ---- balance
 

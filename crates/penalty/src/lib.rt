@@ -43,6 +43,7 @@ fn lines_penalty(grid: &[u8], side: usize, stride: usize, step: usize) -> u32
 }
 
 // What the line costs whose modules stand at start, start + step and so on.
+// By index, since the contract allows a step of 0, which `step_by` refuses.
 pub fn line_penalty(grid: &[u8], start: usize, step: usize, side: usize) -> u32
     requires { (0 < side) × (side ≤ 177) × ((i : ℕ) → i < side → start + i * step < length grid.now) }
     ensures { (result ≡ line_cost side (tabulate side (along grid.now start step))) × (result ≤ 6960) }

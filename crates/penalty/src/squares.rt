@@ -22,17 +22,11 @@ fn row_squares(grid: &[u8], side: usize, y: usize) -> u32
     requires { (y + 1 < side) × (side ≤ 177) × (length grid.now ≡ side * side) }
     ensures { (result ≡ squares side (colours grid.now) y) × (result ≤ 176) }
 {
+    let top = &grid[y * side..(y + 1) * side];
+    let bottom = &grid[(y + 1) * side..(y + 2) * side];
     let mut result: u32 = 0;
-    let top = y * side;
-    let bottom = top + side;
-    let last = side - 1;
-    for x in 0..last {
-        result += same_color(
-            grid[top + x],
-            grid[top + x + 1],
-            grid[bottom + x],
-            grid[bottom + x + 1],
-        );
+    for (above, below) in top.windows(2).zip(bottom.windows(2)) {
+        result += same_color(above[0], above[1], below[0], below[1]);
     }
     result
 }
