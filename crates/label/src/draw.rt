@@ -3,7 +3,6 @@ ghost use Rattle.std.specs.Prelude.{◌≤◌, length};
 
 use super::out::say;
 use super::refusals::refused;
-use encoder::Outcome;
 use streams::read_full;
 use terminal::options::Options;
 use terminal::picture;
@@ -38,19 +37,15 @@ fn make(rt: &impl Print, o: Options, text: &[u8]) {
         &mut scratch,
     );
     match outcome {
-        Outcome::Label {
-            version,
-            level,
-            mask,
-        } => show(
+        Ok(label) => show(
             rt,
             &grid,
-            version.value(),
-            level.ordinal(),
-            mask.value(),
+            label.version.value(),
+            label.level.ordinal(),
+            label.mask.value(),
             &mut out,
         ),
-        Outcome::Refused(r) => refused(rt, r, o.last as usize, o.level as usize),
+        Err(r) => refused(rt, r, o.last as usize, o.level as usize),
     }
 }
 

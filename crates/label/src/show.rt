@@ -85,28 +85,28 @@ fn tell_label(rt: &impl Print, version: u8, level: usize, mask: u8, under: &[u8]
 }
 
 // Says which label was read or why there is none, and returns how many segments are to be said.
-fn tell(rt: &impl Print, outcome: reader::Outcome, under: &[u8]) -> usize
+fn tell(rt: &impl Print, outcome: Result<reader::Label, reader::Refusal>, under: &[u8]) -> usize
     ensures { result ≤ count outcome }
 {
     match outcome {
-        reader::Outcome::Refused(r) => {
+        Err(r) => {
             unread(rt, r);
             0
         }
-        reader::Outcome::Label {
-            version,
-            level,
-            mask,
-            records,
-            text,
-        } => {
-            if !tell_label(rt, version.value(), level.ordinal(), mask.value(), under) {
+        Ok(label) => {
+            if !tell_label(
+                rt,
+                label.version.value(),
+                label.level.ordinal(),
+                label.mask.value(),
+                under,
+            ) {
                 return 0;
             }
-            if records == 0 {
+            if label.records == 0 {
                 say(rt, b"no segments\n");
             }
-            records
+            label.records
         }
     }
 }
