@@ -1,6 +1,5 @@
 // Draws the label of a text.
 use super::refusals::refused;
-use encoder::Outcome;
 use std::io;
 use streams::read_full;
 use terminal::options::Options;
@@ -38,12 +37,8 @@ fn make(rt: &impl Print, o: Options, text: &[u8]) -> io::Result<()> {
         &mut scratch,
     );
     match outcome {
-        Outcome::Label {
-            version,
-            level,
-            mask,
-        } => show(rt, &grid, version, level, mask),
-        Outcome::Refused(r) => refused(rt, r, o),
+        Ok(label) => show(rt, &grid, label.version, label.level, label.mask),
+        Err(r) => refused(rt, r, o),
     }
 }
 

@@ -80,28 +80,26 @@ fn tell_label(
 }
 
 // Says which label was read or why there is none, and returns how many segments are to be said.
-fn tell(rt: &impl Print, outcome: reader::Outcome, under: &[u8]) -> io::Result<usize>
+fn tell(
+    rt: &impl Print,
+    outcome: Result<reader::Label, reader::Refusal>,
+    under: &[u8],
+) -> io::Result<usize>
     ensures { IfOk result (λ n. n ≤ count outcome) }
 {
     match outcome {
-        reader::Outcome::Refused(r) => {
+        Err(r) => {
             unread(rt, r)?;
             Ok(0)
         }
-        reader::Outcome::Label {
-            version,
-            level,
-            mask,
-            records,
-            text,
-        } => {
-            if !tell_label(rt, version, level, mask, under)? {
+        Ok(label) => {
+            if !tell_label(rt, label.version, label.level, label.mask, under)? {
                 return Ok(0);
             }
-            if records == 0 {
+            if label.records == 0 {
                 rt.print("no segments\n")?;
             }
-            Ok(records)
+            Ok(label.records)
         }
     }
 }
