@@ -13,7 +13,6 @@ use Rattle.bits.specs.Fields.{field}
 use Rattle.segments.specs.Fit.{count_le}
 use Rattle.parser.specs.declared.Fault.{Fault as Faulty}
 use Rattle.parser.specs.declared.Segment.{Segment as Segmented}
-use Rattle.parser.specs.declared.eci_number.Eci.{Eci}
 use Rattle.parser.specs.Faults.{Ends, fault_at, field_in, field_err, field_ok}
 use Rattle.parser.specs.Runs.{run_end}
 use Rattle.parser.specs.Eci.{Number, value, eci_two, eci_three, eci_by, eci_at}
@@ -96,13 +95,6 @@ module _ (u : List ℕ) (at : ℕ) (r : Ends) (is : r ≡ field_in u at 8) where
   eci_other x was s =
       let p = field_ok u at 8 r is x was in
       simp (p.0, sym p.1, le-ltb x 128 (omega arith), le-ltb x 192 (omega arith), le-ltb x 224 (omega arith))
-
-module _ (u : List ℕ) (p : ℕ) (g : Number) (is : g ≡ eci_at u p) where
-  pub eci_found : (x : Eci) → g ≡ Ok x → Found 3 p 0 x.assign x.end ≡ from_eci p (eci_at u p)
-  eci_found x was = ap (from_eci p) (sym was ∙ is)
-
-  pub eci_fault : (f : Faulty) → g ≡ Err f → Fault f.bit ≡ from_eci p (eci_at u p)
-  eci_fault f was = ap (from_eci p) (sym was ∙ is)
 
 -- ---- characters
 

@@ -1,9 +1,9 @@
 -- Laws that the proofs of the functions that write characters cite: a digit, a group, a run.
 -- Assumes nothing.
-use Rattle.std.specs.Prelude.{ℕ, zero, suc, ◌+◌, ◌-◌, ◌*◌, ◌/◌, ◌%◌, ◌^◌, ◌≤◌, ◌<◌, Bool, true, false, ◌≡◌, refl, List, [], ◌∷◌, ◌++◌, leb, ltb, length, get_or, set, take, drop, Ok, IsOk}
-use Rattle.std.proofs.Common.{true≢false, sym, ap, ap₂, ◌∙◌, subst, append-nil, arith, mod-lt, div-one, le_of_suc-le-suc, not-suc-le-zero, add-one, leb-true, length-take, length-drop, drop_at, drop-drop, take_at, take_all}
+use Rattle.std.specs.Prelude.{ℕ, zero, suc, ◌+◌, ◌-◌, ◌*◌, ◌/◌, ◌%◌, ◌^◌, ◌≤◌, ◌<◌, ◌≡◌, refl, List, [], ◌∷◌, ◌++◌, length, get_or, set, take, drop, IsOk}
+use Rattle.std.proofs.Common.{true≢false, sym, ap, ap₂, ◌∙◌, subst, append-nil, arith, mod-lt, le_of_suc-le-suc, not-suc-le-zero, add-one, length-take, length-drop, drop_at, drop-drop, take_at, take_all}
 use Rattle.std.specs.Result.{is_ok}
-use Rattle.std.proofs.Math.Nat.{pow-zero, mul-suc}
+use Rattle.std.proofs.Math.Nat.{mul-suc}
 use borrow.Rule.Slice.PartMut.{put_mid}
 use Rattle.laws.specs.Tests.{split}
 use Rattle.standard.specs.Bits.{unpack}
@@ -11,39 +11,9 @@ use Rattle.laws.specs.Lists.{length_unpack}
 use Rattle.bits.specs.Fields.{field}
 use Rattle.segments.specs.Kinds.{size, base, width, char_of, group_chars, length_chars, base_pos}
 use Rattle.segments.specs.Runs.{part, part_pos, part_less}
-use Rattle.parser.specs.Runs.{run_end, run_chars, run_end_room, run_end_short, run_end_large, run_length, no_end}
-use Rattle.parser.specs.CodeRuns.{run_fuel, run_short, part_own, part_full, full_pos, full_cases, none_wide, left_full, left_last, left_small, turns_le}
+use Rattle.parser.specs.Runs.{run_end, run_chars, run_length}
+use Rattle.parser.specs.CodeRuns.{run_short, part_own, part_full, full_pos, full_cases, none_wide, left_full, left_last, left_small, turns_le}
 use Rattle.parser.specs.Filled.{filled, filled_set, filled_mid, filled_whole}
-
--- ---- digits
-module _ (k x i : ℕ) where
-  digit_at : (b p : ℕ) → b ≡ base k → p ≡ b ^ i → x / p % b ≡ x / base k ^ i % base k
-  digit_at b p eb ep = ap₂ (λ (m n : ℕ). x / m % n) (ep ∙ ap (λ (n : ℕ). n ^ i) eb) eb
-
-  low_digit : (b : ℕ) → b ≡ base k → i ≡ 0 → x % b ≡ x / base k ^ i % base k
-  low_digit b eb ei = ap (λ (n : ℕ). n % b) (sym (div-one x)) ∙ digit_at b 1 eb (sym (pow-zero b) ∙ ap (λ (j : ℕ). b ^ j) (sym ei))
-
-  pub numeric_low : k ≡ 0 → i ≡ 0 → x % 10 ≡ x / base k ^ i % base k
-  numeric_low ek ei = low_digit 10 (ap base (sym ek)) ei
-
-  pub numeric_mid : k ≡ 0 → i ≡ 1 → x / 10 % 10 ≡ x / base k ^ i % base k
-  numeric_mid ek ei = digit_at 10 10 (ap base (sym ek)) (ap (λ (j : ℕ). 10 ^ j) (sym ei))
-
-  pub numeric_high : k ≡ 0 → i < size k → 1 < i → x / 100 % 10 ≡ x / base k ^ i % base k
-  numeric_high ek hi h =
-      let s : 3 ≡ size k = ap size (sym ek) in
-      let ei : 2 ≡ i = omega arith in
-      digit_at 10 100 (ap base (sym ek)) (ap (λ (j : ℕ). 10 ^ j) ei)
-
-  pub alphanumeric_low : k < 2 → 0 < k → i ≡ 0 → x % 45 ≡ x / base k ^ i % base k
-  alphanumeric_low a b ei = let ek : 1 ≡ k = omega arith in low_digit 45 (ap base ek) ei
-
-  pub alphanumeric_high : k < 2 → 0 < k → i < size k → 0 < i → x / 45 % 45 ≡ x / base k ^ i % base k
-  alphanumeric_high a b hi h =
-      let ek : 1 ≡ k = omega arith in
-      let s : 2 ≡ size k = ap size ek in
-      let ei : 1 ≡ i = omega arith in
-      digit_at 45 45 (ap base ek) (ap (λ (j : ℕ). 45 ^ j) ei)
 
 pub digit_lt : (k x i d : ℕ) → d ≡ x / base k ^ i % base k → d < base k
 digit_lt k x i d e = subst (λ (j : ℕ). j < base k) (sym e) (mod-lt (x / base k ^ i) (base_pos k))
@@ -67,32 +37,7 @@ group_next o out k m x j d v inv ed ev h long =
 pub group_whole : (o out : List ℕ) (k m x j : ℕ) → out ≡ filled o (group_chars k m x) j → length o ≡ m → m ≤ j → j ≤ m → out ≡ group_chars k m x
 group_whole o out k m x j inv long a b = inv ∙ filled_whole o (group_chars k m x) j (omega arith) (omega (arith, length_chars k m x))
 
--- ---- a run that has been checked
-pub record Opened (k : ℕ) (u : List ℕ) (p n end : ℕ) : Type 0 where
-  pub room : p + width k (part k n) ≤ length u
-  pub next : run_end k u (n - part k n) (p + width k (part k n)) (n - part k n) ≡ Ok end
-
-opened : (k : ℕ) (u : List ℕ) (p n end : ℕ) → run_end k u n p n ≡ Ok end → 0 < n → Opened k u p n end
-opened k u p zero end e h = absurd (omega arith)
-opened k u p (suc n) end e h = room_case (leb (p + w) (length u)) refl
-  where
-    m : ℕ
-    m = part k (suc n)
-
-    w : ℕ
-    w = width k m
-
-    limit_case : (t : Bool) → ltb (field u p w) (base k ^ m) ≡ t → leb (p + w) (length u) ≡ true → Opened k u p (suc n) end
-    limit_case true q r =
-        record {
-          room = leb-true (p + w) (length u) r;
-          next = run_fuel k u (suc n - m) n (p + w) (suc n - m) (omega arith) (omega (arith, part_pos k n)) ∙ sym (run_end_room k u n p n r q) ∙ e;
-        }
-    limit_case false q r = no_end p end (sym (run_end_large k u n p n r q) ∙ e)
-
-    room_case : (t : Bool) → leb (p + w) (length u) ≡ t → Opened k u p (suc n) end
-    room_case true r = limit_case (ltb (field u p w) (base k ^ m)) refl r
-    room_case false r = no_end p end (sym (run_end_short k u n p n r) ∙ e)
+-- ---- characters of a run
 
 chars_fuel : (k : ℕ) (u : List ℕ) (f g at n : ℕ) → n ≤ f → n ≤ g → run_chars k u f at n ≡ run_chars k u g at n
 unfolding run_chars

@@ -1,8 +1,8 @@
 -- The writing pass: characters and records of what is read, at the start of each lent slice.
 -- Assumes nothing.
-use Rattle.std.specs.Prelude.{ℕ, suc, ◌+◌, ◌-◌, ◌*◌, ◌^◌, ◌≤◌, ◌<◌, ◌≡◌, refl, List, [], ◌∷◌, ◌++◌, length, set, drop, Ok, Err}
-use Rattle.std.proofs.Common.{sym, ap, ap₂, ◌∙◌, subst, append_assoc, append-nil, arith, length-append, drop-drop, take_at, take_all, lt-ltb, le-ltb}
-use Rattle.std.proofs.Math.Seq.{paste, paste-zero, paste-suc, drop-append-add}
+use Rattle.std.specs.Prelude.{ℕ, suc, ◌+◌, ◌-◌, ◌*◌, ◌^◌, ◌≤◌, ◌<◌, ◌≡◌, refl, List, [], ◌∷◌, ◌++◌, length, drop, Ok, Err}
+use Rattle.std.proofs.Common.{sym, ap, ap₂, ◌∙◌, subst, append_assoc, append-nil, arith, length-append, drop-drop, take_at, take_all}
+use Rattle.std.proofs.Math.Seq.{paste, drop-append-add}
 use Rattle.standard.specs.Bits.{unpack}
 use Rattle.standard.specs.Read.{characters, record_of, records_from}
 use Rattle.standard.specs.Segments.{Part, Segment}
@@ -86,23 +86,6 @@ pub numbers_length : (t : ℕ) (d : List Segment) → length (numbers_of (record
 numbers_length t [] = refl
 numbers_length t (x ∷ d) = let e = numbers_length (t + length x.chars) d in omega arith
 
--- four numbers, stored one after the other
-put_four : (o : List ℕ) (at a b c d : ℕ) → at + 4 ≤ length o
-    → set (set (set (set o at a) (at + 1) b) (at + 2) c) (at + 3) d ≡ paste o at (a ∷ b ∷ c ∷ d ∷ []) 4
-put_four o at a b c d h =
-    let s : List ℕ = a ∷ b ∷ c ∷ d ∷ [] in
-    let z : at ≡ at + 0 = omega arith in
-    let one : set o at a ≡ paste o at s 1
-    = ap₂ (λ (l : List ℕ) (i : ℕ). set l i a) (paste-zero o at s) z ∙ paste-suc o at s 0 0 (omega arith) (omega arith) in
-    let two : set (set o at a) (at + 1) b ≡ paste o at s 2 = ap (λ (l : List ℕ). set l (at + 1) b) one ∙ paste-suc o at s 1 0 (omega arith) (omega arith) in
-    let three : set (set (set o at a) (at + 1) b) (at + 2) c ≡ paste o at s 3
-    = ap (λ (l : List ℕ). set l (at + 2) c) two ∙ paste-suc o at s 2 0 (omega arith) (omega arith) in
-    ap (λ (l : List ℕ). set l (at + 3) d) three ∙ paste-suc o at s 3 0 (omega arith) (omega arith)
-
-pub put_record : (o : List ℕ) (at k t n a st : ℕ) → st ≡ start_of k t → at + 4 ≤ length o
-    → set (set (set (set o at k) (at + 1) st) (at + 2) n) (at + 3) a ≡ paste o at (k ∷ start_of k t ∷ n ∷ a ∷ []) 4
-put_record o at k t n a st e h = put_four o at k st n a h ∙ ap (λ (x : ℕ). paste o at (k ∷ x ∷ n ∷ a ∷ []) 4) e
-
 -- a paste after what is written
 pasted : (x o out new cs : List ℕ) (t n : ℕ) → length x ≡ t → length cs ≡ n → out ≡ x ++ drop t o → new ≡ paste out t cs n → new ≡ (x ++ cs) ++ drop (t + n) o
 pasted x o out new cs t n l lc c w =
@@ -141,12 +124,6 @@ one_more : (d : List Segment) (s : Segment) (p : Parsed) (n m : ℕ) → Room (c
 one_more d s (read ss) n m h =
     (omega (arith, h.0, length_both d (s ∷ ss)), omega (arith, h.1, length-append d (s ∷ ss)))
 one_more d s (bad b) n m h = absurd h
-
-pub start_text : (k t : ℕ) → k < 3 → t ≡ start_of k t
-start_text k t h = simp (lt-ltb k 3 h)
-
-pub start_eci : (k t : ℕ) → 3 ≤ k → 0 ≡ start_of k t
-start_eci k t h = simp (le-ltb k 3 h)
 
 module _ (v : ℕ) (buf : List ℕ) (at r t : ℕ) (o q o' q' : List ℕ) (D : Done v buf at r t o q o' q') (z : Step) (is : z ≡ step_at v (unpack buf) at)
     (few : r ≤ at) (high : at ≤ 8 * length buf) (space : Room (counted (parse v buf)) (length o) (length q)) where

@@ -13,6 +13,8 @@ pub struct Eci {
     pub end: usize,
 }
 
+// (The next two stay two: one function for both would take the width, the modulus and the least number as parameters.)
+
 // An ECI number in two bytes, of which the first begins 10. One below 128 has a shorter form.
 fn eci_two(buf: &[u8], at: usize) -> Result<Eci, Fault>
     requires { (length buf.now ≤ 4096) × (at ≤ 8 * length buf.now) }

@@ -189,6 +189,8 @@ fn read_square(
 
 /*---- The entry ----*/
 
+// (Text and records stay two parameters: a struct of two `&mut` would be named `.entry` or `.exit` in each clause.)
+
 // Reads a grid of a version in scratch, and zeroes that.
 fn read_checked(
     grid: &[u8],

@@ -52,6 +52,7 @@ fn same_record(want: &[u8], j: usize, record: &[u64]) -> bool
 fn same_records(want: &[u8], records: &[u64], n: usize) -> bool
     requires { (n ≤ 2048) × (4 * n ≤ length records.now) }
 {
+    // By number, which gives the places in both.
     for i in 0..n {
         if !same_record(want, 8 * i, &records[4 * i..4 * i + 4]) {
             return false;
