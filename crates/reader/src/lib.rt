@@ -170,7 +170,7 @@ fn read_square(
     let format = Format {
         version: ver,
         level: modules::read_level(grid, ver),
-        mask: types::mask_at(modules::read_mask(grid, ver)),
+        mask: modules::read_mask(grid, ver),
     };
     let raw = capacity::get_num_raw_data_modules(ver) / 8;
     let len = capacity::get_num_data_codewords(ver, format.level);

@@ -1,6 +1,5 @@
 -- `read_square` lends room for the codewords of a version.
 -- Assumes nothing.
-use mathlib.Core.Path.{◌∙◌}
 use Rattle.reader.specs.Recovered.{raw_fits, data_fits}
 use lib.Dec.{lit≤}
 use Rattle.reader.specs.Entry.{raw_part, data_part}
@@ -15,7 +14,6 @@ slice_bounds-data-end c = data_fits _ _ _ c.get_num_data_codewords-len.ensures c
 pub read_words-requires : goal.read_words-requires
 read_words-requires c =
     let ver = c.args.ver in
-    let number = c.read_mask in
     record {
       grid = c.requires.grid;
       work = c.requires.work;
@@ -23,5 +21,5 @@ read_words-requires c =
         raw_part ver.value _ c.get_num_raw_data_modules-raw.ensures ver.in_range.0 ver.in_range.1,
         data_part ver.value _ c.read_level.result _ c.get_num_data_codewords-len.ensures ver.in_range.0 ver.in_range.1 (lit≤ tt),
       );
-      format = (c.read_level.ensures, c.mask_at.ensures ∙ number.ensures.0, c.requires.small);
+      format = (c.read_level.ensures, c.read_mask.ensures, c.requires.small);
     }
