@@ -31,10 +31,6 @@ agree c w = ltb w 2 || eqb (w % 2) c
 abbrev pub agree_to : ℕ → List ℕ → List ℕ → Bool
 agree_to n g w = all_to n (λ k. agree (get_or g k 0) (get_or w k 0))
 
-pub agree_is : (c w : ℕ) → ltb w 2 || eqb (w % 2) c ≡ agree c w
-unfolding agree
-agree_is c w = refl
-
 -- ---- one module
 
 module _ (v l m : ℕ) (g : List ℕ) (small : Small v g) where

@@ -11,9 +11,6 @@ use Rattle.patterns.specs.FinderLayer.{finders, finders_layer}
 pub square_is : (g : List ℕ) (a b : ℕ) → a ≡ b → Square g b → Square g a
 square_is g a b e sq = rw e sq
 
-pub square_at : (g : List ℕ) (v w : ℕ) → v ≡ w → Square g (side w) → Square g (side v)
-square_at g v w e sq = rw e sq
-
 module _ (v word : ℕ) (g a b c d e : List ℕ) where
   layered : a ≡ paint (side v) timings g → b ≡ paint (side v) (finders (side v)) a → c ≡ paint (side v) (alignments v) b
       → d ≡ paint (side v) (formats (side v) word) c → e ≡ paint (side v) (versions v) d → Square g (side v) → 1 ≤ v

@@ -1,12 +1,10 @@
 -- The loops that compute check bits.
 -- Assumes nothing.
-use Rattle.std.specs.Prelude.{ℕ, zero, suc, ◌+◌, ◌-◌, ◌*◌, ◌/◌, ◌%◌, ◌^◌, ◌≤◌, ◌<◌, Bool, true, false, ◌≡◌, refl, T, ltb, eqb}
-use Rattle.std.proofs.Common.{sym, ap, ◌∙◌, add-one, arith, div-lt_iff_lt-mul, ltb-true, eqb-true}
+use Rattle.std.specs.Prelude.{ℕ, zero, suc, ◌+◌, ◌-◌, ◌*◌, ◌/◌, ◌^◌, ◌≤◌, ◌<◌, Bool, ◌≡◌, T, ltb}
+use Rattle.std.proofs.Common.{ap, ◌∙◌, add-one, arith, div-lt_iff_lt-mul, ltb-true}
 use Rattle.std.specs.Int.Bits.{bit_xor}
 use Rattle.std.proofs.lemmas.Nat.{xor_lt, pow_pos}
 use Rattle.std.proofs.Math.Nat.{two-pow-succ}
-use Rattle.std.proofs.lemmas.Bool.{eqb-false}
-use Rattle.standard.specs.Numbers.{one}
 use Rattle.standard.specs.Format.{checked, level_bits, format_word, version_word}
 use Rattle.laws.specs.Tests.{T_true}
 use Rattle.laws.specs.Computed.{among, below}
@@ -82,11 +80,3 @@ level_small (suc zero) b e = omega arith
 level_small (suc (suc zero)) b e = omega arith
 level_small (suc (suc (suc zero))) b e = omega arith
 level_small (suc (suc (suc (suc l)))) b e = omega arith
-
--- a bit, as a test and as a number
-pub bit_one : (n : ℕ) → one (eqb (n % 2) 1) ≡ n % 2
-bit_one n = go (eqb (n % 2) 1) refl
-  where
-    go : (b : Bool) → eqb (n % 2) 1 ≡ b → one b ≡ n % 2
-    go true e = sym (eqb-true (n % 2) 1 e)
-    go false e = omega (arith, eqb-false (n % 2) 1 e)
