@@ -18,7 +18,7 @@ fn show(
     let mut memory = [0u8; 53000];
     let mut out = Text::new(&mut memory);
     picture::draw(4 * version.value() as usize + 17, grid, &mut out);
-    caption(&mut out, version.value(), level, mask.value());
+    caption(&mut out, version.value(), level.ordinal(), mask.value());
     rt.write_all(out.bytes())
 }
 
@@ -28,7 +28,7 @@ fn make(rt: &impl Print, o: Options, text: &[u8]) -> io::Result<()> {
     let mut scratch = [0u8; 40000];
     let outcome = encoder::encode_text(
         text,
-        o.level.ordinal() as u8,
+        o.level,
         o.first,
         o.last,
         o.mask,

@@ -70,7 +70,7 @@ fn tell_label(
 ) -> io::Result<bool> {
     let mut memory = [0u8; 40];
     let mut out = Text::new(&mut memory);
-    caption(&mut out, version.value(), level, mask.value());
+    caption(&mut out, version.value(), level.ordinal(), mask.value());
     let right = under.is_empty() || under == out.bytes();
     if !right {
         rt.print("label: the line under the picture should be: ")?;
