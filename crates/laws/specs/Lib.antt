@@ -10,5 +10,6 @@ pub mod Each
 pub mod Front
 pub mod Grid
 pub mod Store
+pub mod Box
 pub mod Dots
 pub mod Marks
