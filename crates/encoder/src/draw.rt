@@ -1,4 +1,5 @@
 // Drawing: data codewords, blocks, modules and mask, into the caller's grid; and the scratch zeroed.
+// Text and records, grid and scratch stay parameters of their own: they are the buffers that C lends (`gatemurmur_encode_segments`).
 ghost use Rattle.std.specs.Prelude.{◌≡◌, ◌≤◌, T, length, replicate};
 ghost use Rattle.standard.specs.Numbers.{every};
 ghost use Rattle.standard.specs.Sizes.{side, raw_codewords, data_codewords};

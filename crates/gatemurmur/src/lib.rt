@@ -2,6 +2,7 @@
 // function has no enum, so an answer goes out as a struct of numbers. `include/gatemurmur.h` is their header.
 #![tactic(auto)]
 
+// Two modules and not one: C gets two structs, `Answer` and `Reading`, with other fields and refusals (`include/gatemurmur.h`).
 mod answers; // answers.rt: the encoder's answers as numbers
 mod readings; // readings.rt: the reader's answers as numbers
 
