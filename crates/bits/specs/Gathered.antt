@@ -1,7 +1,8 @@
 -- A field of the bits of bytes, from the number of the bytes that hold it: without the bits after it, and of those up to it the low ones.
 -- Assumes nothing.
 use Rattle.std.specs.Prelude.{ℕ, ◌+◌, ◌-◌, ◌*◌, ◌/◌, ◌%◌, ◌^◌, ◌≤◌, ◌<◌, ◌≡◌, refl, List, ◌++◌, length, get_or, take, drop}
-use Rattle.std.proofs.Common.{sym, ap, ap₂, ◌∙◌, subst, append_assoc, arith, one-mul, mod-lt, mod-eq_of_lt, lt_of_lt_of_le, take_at, take-add, drop_at, drop-drop, lit<, pow_pos, pow_mono, shl_exact}
+use Rattle.std.proofs.Common.{length-take-le, length-drop, get_or-drop, sym, ap, ap₂, ◌∙◌, subst, append_assoc, arith, one-mul, mod-lt, mod-eq_of_lt, lt_of_lt_of_le, take_at, take-add, drop_at, drop-drop, lit<, pow_pos, pow_mono, shl_exact}
+use Rattle.std.proofs.lemmas.List.{get_or-take}
 use Rattle.standard.specs.Bits.{bits, value_from, unpack}
 use Rattle.laws.specs.Lists.{length_bits, length_unpack}
 use Rattle.bits.specs.PackedLaws.{value_bits, value_append}
@@ -32,7 +33,7 @@ pub gather_start : (bs : List ℕ) (k : ℕ) → 0 ≡ field (unpack bs) (8 * k)
 unfolding value_from
 gather_start bs k = refl
 
-pub gather_next : (bs : List ℕ) (k j r b : ℕ) → r ≡ field (unpack bs) (8 * k) (8 * j) → b ≡ get_or bs (k + j) 0 → b < 256 → k + j < length bs
+gather_next : (bs : List ℕ) (k j r b : ℕ) → r ≡ field (unpack bs) (8 * k) (8 * j) → b ≡ get_or bs (k + j) 0 → b < 256 → k + j < length bs
     → r * 256 + b ≡ field (unpack bs) (8 * k) (8 * (j + 1))
 gather_next bs k j r b er eb small room =
     let u : List ℕ = unpack bs in
@@ -46,12 +47,30 @@ gather_next bs k j r b er eb small room =
     ∙ ap₂ value_from (sym er) last ∙ value_bits r 8 b in
     omega (arith, all, mod-eq_of_lt small)
 
-pub gather_fits : (bs : List ℕ) (k j r b : ℕ) → r ≡ field (unpack bs) (8 * k) (8 * j) → k + j ≤ length bs → j < 5 → b < 256 → r * 256 + b < 2 ^ 64
+gather_fits : (bs : List ℕ) (k j r b : ℕ) → r ≡ field (unpack bs) (8 * k) (8 * j) → k + j ≤ length bs → j < 5 → b < 256 → r * 256 + b < 2 ^ 64
 gather_fits bs k j r b e room h small =
     let l : r < 2 ^ 32
     = subst (λ (n : ℕ). n < 2 ^ 32) (sym e)
     (lt_of_lt_of_le (field_lt (unpack bs) (8 * k) (8 * j) (binary_unpack bs) (omega (arith, length_unpack bs))) (pow_mono {i = 8 * j} {j = 32} (omega arith))) in
     omega arith
+
+-- the n bytes from byte k on
+module _ (bs : List ℕ) (k n : ℕ) (room : k + n ≤ length bs) where
+  pub part_length : length (take (k + n - k) (drop k bs)) ≡ n
+  part_length = length-take-le (k + n - k) (drop k bs) (omega (arith, length-drop k bs)) ∙ omega arith
+
+  module _ (byte : (i : ℕ) → get_or bs i 0 < 256) (j r : ℕ) (inv : r ≡ field (unpack bs) (8 * k) (8 * j)) (here : j < length (take (k + n - k) (drop k bs))) where
+    part_at : get_or (take (k + n - k) (drop k bs)) j 0 ≡ get_or bs (k + j) 0
+    part_at = get_or-take (k + n - k) (drop k bs) j 0 (omega (arith, part_length)) ∙ get_or-drop k bs j 0
+
+    part_byte : get_or (take (k + n - k) (drop k bs)) j 0 < 256
+    part_byte = subst (λ (x : ℕ). x < 256) (sym part_at) (byte (k + j))
+
+    pub part_fits : n ≤ 5 → r * 256 + get_or (take (k + n - k) (drop k bs)) j 0 < 2 ^ 64
+    part_fits few = gather_fits bs k j r (get_or (take (k + n - k) (drop k bs)) j 0) inv (omega (arith, part_length)) (omega (arith, part_length)) part_byte
+
+    pub part_next : r * 256 + get_or (take (k + n - k) (drop k bs)) j 0 ≡ field (unpack bs) (8 * k) (8 * (j + 1))
+    part_next = gather_next bs k j r (get_or (take (k + n - k) (drop k bs)) j 0) inv part_at part_byte (omega (arith, part_length))
 
 -- the field that they hold
 pub gather_end : (bs : List ℕ) (at len k end n r : ℕ) → r ≡ field (unpack bs) (8 * k) (8 * n) → k ≡ at / 8 → end ≡ at % 8 + len → n ≡ (end + 7) / 8

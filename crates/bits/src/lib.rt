@@ -23,14 +23,6 @@ fn put_bits(buf: &mut [u8], i: usize, v: u8, w: usize)
     buf[k] |= v << (8 - i % 8 - w);
 }
 
-// How many of the bits that are left go into the byte of bit p.
-fn in_byte(p: usize, left: usize) -> usize
-    ensures { result ≡ min left (8 - p % 8) }
-{
-    let room = 8 - p % 8;
-    if left < room { left } else { room }
-}
-
 // Appends the given number of low-order bits of the given value at bit at, from which on zero bits stand,
 // and returns the bit after them. As many bits as a byte has room for go in at a time.
 pub fn append_bits(buf: &mut [u8], at: usize, val: u32, len: u8) -> usize
@@ -39,8 +31,9 @@ pub fn append_bits(buf: &mut [u8], at: usize, val: u32, len: u8) -> usize
 {
     let mut left = len as usize;
     let mut p = at;
+    // Each turn takes the bits that its byte has room for: no range or iterator steps as p does.
     while 0 < left {
-        let w = in_byte(p, left);
+        let w = left.min(8 - p % 8);
         put_bits(buf, p, ((val >> (left - w)) % (1 << w)) as u8, w);
         p += w;
         left -= w;
@@ -58,10 +51,8 @@ pub fn read_bits(buf: &[u8], at: usize, len: u8) -> u32
     let end = at % 8 + len as usize;
     let n = (end + 7) / 8;
     let mut r: u64 = 0;
-    let mut j: usize = 0;
-    while j < n {
-        r = r * 256 + buf[k + j] as u64;
-        j += 1;
+    for b in &buf[k..k + n] {
+        r = r * 256 + *b as u64;
     }
     ((r >> (8 * n - end)) % (1 << len)) as u32
 }

@@ -24,13 +24,10 @@ unfoldable pub candidate : ℕ → ℕ → ℕ → List ℕ → List ℕ
 candidate v l m g = paint (side v) (masked m) (paint (side v) (formats (side v) (format_word l m)) g)
 
 -- the format bits are drawn, and the mask is scored as if it were
-module _ (v l m j : ℕ) (g h : List ℕ) (e : h ≡ paint (side v) (formats (side v) (format_word l j)) g) (q : j ≡ m) where
-  pub score_is : (r s : ℕ) → r ≡ penalty s (colours (paint s (masked m) h)) → s ≡ side v → r ≡ penalty (side v) (colours (candidate v l m g))
-  unfolding candidate
-  score_is r s d w = d ∙ rw (w, e, q)
-
-  pub formatted_is : h ≡ paint (side v) (formats (side v) (format_word l m)) g
-  formatted_is = e ∙ rw q
+pub score_is : (v l m : ℕ) (g h : List ℕ) → h ≡ paint (side v) (formats (side v) (format_word l m)) g
+    → (r s k : ℕ) → r ≡ penalty s (colours (paint s (masked k) h)) → s ≡ side v → k ≡ m → r ≡ penalty (side v) (colours (candidate v l m g))
+unfolding candidate
+score_is v l m g h e r s k d w q = d ∙ rw (w, e, q)
 
 -- its length, by the side as a number
 pub formatted_size : (v word s : ℕ) (g h : List ℕ) → h ≡ paint (side v) (formats (side v) word) g → Square g (side v) → s ≡ side v → length h ≡ s * s
@@ -74,7 +71,7 @@ pub record Scored (v l : ℕ) (g h : List ℕ) (n k m : ℕ) : Type 0 where
   pub scored : (ws : List ℕ) → Kept v ws g → Best 0xFFFF_FFFF (λ i. penalty (side v) (grid v l i (content v ws))) n k m × Kept v ws h
 
 module _ (v l : ℕ) (g : List ℕ) where
-  pub scored_start : Scored v l g g 0 0 0xFFFF_FFFF
+  scored_start : Scored v l g g 0 0 0xFFFF_FFFF
   scored_start = record { small = omega arith; size = refl; scored = λ ws kept. (best_start 0xFFFF_FFFF _ 0 0xFFFF_FFFF refl, kept) }
 
   -- candidate n is scored p; it is better, or it is not
@@ -112,6 +109,13 @@ module _ (v l : ℕ) (g : List ℕ) where
               (best_same 0xFFFF_FFFF _ n k m p s.0 r more (omega (arith, r, penalty_le (side v) (grid v l n (content v ws)) (omega arith))), again ws s.1);
         })
 
+  -- candidate 0 is the best of one
+  pub scored_first : (h : List ℕ) (p k : ℕ) → p ≡ penalty (side v) (colours (candidate v l k g)) → h ≡ paint (side v) (formats (side v) (format_word l k)) g
+      → k ≡ 0 → v ≤ 40 → Scored v l g h 1 k p
+  scored_first h p k e f q high =
+      scored_next g h 0 0 0xFFFF_FFFF p k scored_start e f q high k p (omega arith)
+      (omega (arith, e, penalty_le (side v) (colours (candidate v l k g)) (omega arith))) q refl
+
   pub scored_end : (h : List ℕ) (n k m r : ℕ) → Scored v l g h n k m → n ≤ 8 → 8 ≤ n → r ≡ k → Chooses v l 8 g h r
   unfolding scores chosen
   scored_end h n k m r st low high q =
@@ -125,10 +129,6 @@ module _ (v l : ℕ) (g : List ℕ) where
   pub named : (m r : ℕ) → m < 8 → r ≡ m → Chooses v l m g g r
   unfolding chosen
   named m r h e = record { small = omega arith; size = refl; chooses = λ ws kept. (e ∙ rw (lt-ltb m 8 h), kept) }
-
-  -- and 8 is the only other number
-  pub automatic : (h : List ℕ) (m r : ℕ) → Chooses v l 8 g h r → m ≤ 8 → 8 ≤ m → Chooses v l m g h r
-  automatic h m r c low high = let e : 8 ≡ m = omega arith in rw e at c
 
 -- ---- the whole drawing
 

@@ -1,14 +1,13 @@
 -- Document 01's number and details of each refusal, and the answers of the code as answers of the definition.
 -- Assumes nothing.
-use Rattle.standard.specs.Plan.{Refusal as Told, refusal, Plan, unplanned, planned}
+use Rattle.std.specs.Prelude.{Result, Ok, Err}
+use Rattle.standard.specs.Plan.{Refusal as Told, refusal, Plan as Planned, unplanned, planned}
 use Rattle.standard.specs.Encode.{Answer, refused, accepted}
 use Rattle.types.specs.Numbers.{level_of}
 use Rattle.encoder.specs.declared.Refusal.{Refusal}
 use Rattle.encoder.specs.declared.Refusal.TheVariants.{Level, Versions, MaskNumber, Records, Record, SegmentTooLong, DataOverCapacity, GridShort, ScratchShort, DataLength}
-use Rattle.encoder.specs.declared.Outcome.{Outcome}
-use Rattle.encoder.specs.declared.Outcome.TheVariants.{Label, Refused}
-use Rattle.encoder.specs.declared.plan.Planning.{Planning}
-use Rattle.encoder.specs.declared.plan.Planning.TheVariants.{Planned, Refused as NoPlan}
+use Rattle.encoder.specs.declared.Label.{Label}
+use Rattle.encoder.specs.declared.plan.Plan.{Plan}
 
 abbrev pub number_of : Refusal → Told
 number_of (Level l) = refusal 1 l 0
@@ -22,10 +21,10 @@ number_of (GridShort n) = refusal 8 n 0
 number_of (ScratchShort n) = refusal 9 n 0
 number_of (DataLength n) = refusal 10 n 0
 
-abbrev pub plan_of : Planning → Plan
-plan_of (Planned v l n) = planned v.0 (level_of l) n
-plan_of (NoPlan e) = unplanned (number_of e)
+abbrev pub plan_of : Result Plan Refusal → Planned
+plan_of (Ok p) = planned p.version.value (level_of p.level) p.bits
+plan_of (Err e) = unplanned (number_of e)
 
-abbrev pub answer_of : Outcome → Answer
-answer_of (Label v l m) = accepted v.0 (level_of l) m.0
-answer_of (Refused e) = refused (number_of e)
+abbrev pub answer_of : Result Label Refusal → Answer
+answer_of (Ok a) = accepted a.version.value (level_of a.level) a.mask.value
+answer_of (Err e) = refused (number_of e)

@@ -1,6 +1,8 @@
 pub mod Answers
+pub mod Masks
 pub mod Fitting
 pub mod Planning
+pub mod Settings
 pub mod Search
 pub mod Ready
 pub mod Drawing

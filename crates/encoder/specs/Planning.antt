@@ -1,15 +1,15 @@
 -- The order of refusals 1 to 7, the level that the data get, and what a plan says of its records.
 -- Assumes nothing.
-use Prim.Native.Nat.{ℕ, zero, suc, ◌+◌, ◌*◌, ◌/◌, ◌^◌, ◌≤◌, ◌<◌}
-use Rattle.std.specs.Prelude.{Bool, true, false, cond, ◌&&◌, not, List, ◌≡◌, T, leb, ltb, length}
-use Rattle.std.proofs.Math.Path.{refl, sym}
-use Rattle.std.proofs.Common.{ap, ◌∙◌, arith}
-use borrow.Author.Tests.{le-leb, lt-leb, le-ltb, lt-ltb, leb-true, leb-false, not-false}
-use Rattle.standard.specs.Numbers.{highest, every}
+use Prim.Native.Nat.{ℕ, zero, suc, ◌+◌, ◌*◌, ◌^◌, ◌≤◌, ◌<◌}
+use Rattle.std.specs.Prelude.{Bool, true, false, cond, ◌&&◌, not, List, ◌≡◌, T, leb, length}
+use Rattle.std.proofs.Math.Path.{refl}
+use Rattle.std.proofs.Common.{ap, ◌∙◌, arith, add-one}
+use borrow.Author.Tests.{le-leb, lt-leb, le-ltb, lt-ltb, leb-true, not-false}
+use Rattle.standard.specs.Numbers.{every}
 use Rattle.standard.specs.Sizes.{data_codewords, capacity}
 use Rattle.standard.specs.Segments.{Part, segments_of, good_part, first_bad}
 use Rattle.standard.specs.Plan.{refusal, Plan, unplanned, boosted, plan_fit, plan}
-use Rattle.segments.specs.Records.{parts_of, parts_length, all_good}
+use Rattle.segments.specs.Records.{all_good}
 use Rattle.counts.specs.Ranges.{PairRange, pair_range}
 use Rattle.laws.specs.Tests.{and_first, and_second}
 
@@ -18,136 +18,83 @@ use Rattle.laws.specs.Tests.{and_first, and_second}
 abbrev pub bad_range : ℕ → ℕ → Bool
 bad_range first last = not (leb 1 first && (leb first last && leb last 40))
 
-pub range_first : (first last : ℕ) → first < 1 → true ≡ bad_range first last
-range_first first last h = rw (lt-leb 1 first h)
-
-pub range_order : (first last : ℕ) → 1 ≤ first → last < first → true ≡ bad_range first last
-range_order first last h k = rw (le-leb 1 first h, lt-leb first last k)
-
-not_leb : (a b : ℕ) → ltb b a ≡ not (leb a b)
-not_leb a b = go (leb a b) refl
-  where
-    go : (t : Bool) → leb a b ≡ t → ltb b a ≡ not t
-    go true e = le-ltb b a (leb-true a b e)
-    go false e = lt-ltb b a (leb-false a b e)
-
-pub range_last : (first last : ℕ) → 1 ≤ first → first ≤ last → ltb 40 last ≡ bad_range first last
-range_last first last h k = rw (le-leb 1 first h, le-leb first last k) (not_leb last 40)
+pub range_good : (first last : ℕ) → 1 ≤ first → first ≤ last → last ≤ 40 → bad_range first last ≡ false
+range_good first last low mid high = rw (le-leb 1 first low, le-leb first last mid, le-leb last 40 high)
 
 -- ---- the level
 
 unfoldable pub final_level : ℕ → ℕ → Bool → ℕ → ℕ
 final_level v l boost n = cond boost (boosted v l n) l
 
--- the highest, one level at a time
-highest_here : (k n : ℕ) (p : ℕ → Bool) → p (k + suc n) ≡ true → highest k (suc n) p ≡ k + suc n
-highest_here k n p e = ap (λ (b : Bool). elim b as (λ _. ℕ) [ true ↦ k + suc n | false ↦ highest k n p ]) e
+-- level l after levels 1 to k were tried, from low to high: the last that holds n bits
+unfoldable pub raised : ℕ → ℕ → ℕ → ℕ → ℕ
+raised v n l zero = l
+raised v n l (suc k) = cond (leb n (capacity v (suc k))) (suc k) (raised v n l k)
 
-highest_lower : (k n : ℕ) (p : ℕ → Bool) → p (k + suc n) ≡ false → highest k (suc n) p ≡ highest k n p
-highest_lower k n p e = ap (λ (b : Bool). elim b as (λ _. ℕ) [ true ↦ k + suc n | false ↦ highest k n p ]) e
+pub raised_none : (v n l : ℕ) → l ≡ raised v n l 0
+unfolding raised
+raised_none v n l = refl
 
-module _ (v n : ℕ) where
-  holds : ℕ → Bool
-  holds k = leb n (capacity v k)
+-- the level of the next turn, which holds the bits or does not
+module _ (v n l k j r a c : ℕ) (e : r ≡ raised v n l k) (ej : j ≡ k + 1) (ea : a ≡ j) (ec : c ≡ capacity v a) where
+  pub raised_here : (t : ℕ) → n ≤ c → t ≡ a → t ≡ raised v n l (k + 1)
+  unfolding raised
+  raised_here t h et =
+      let same : capacity v a ≡ capacity v (suc k) = ap (capacity v) (omega (arith, ea, ej)) in
+      rw (add-one, le-leb n (capacity v (suc k)) (omega (arith, same))) (omega (arith, et, ea, ej))
 
-  yes_at : (k c : ℕ) → c ≡ capacity v k → n ≤ c → holds k ≡ true
-  unfolding holds
-  yes_at k c e h = le-leb n (capacity v k) (omega arith)
+  pub raised_not : (t : ℕ) → c < n → t ≡ r → t ≡ raised v n l (k + 1)
+  unfolding raised
+  raised_not t h et =
+      let same : capacity v a ≡ capacity v (suc k) = ap (capacity v) (omega (arith, ea, ej)) in
+      rw (add-one, lt-leb n (capacity v (suc k)) (omega (arith, same))) (et ∙ e)
 
-  not_at : (k c : ℕ) → c ≡ capacity v k → c < n → holds k ≡ false
-  unfolding holds
-  not_at k c e h = lt-leb n (capacity v k) (omega arith)
-
-  module _ (c : ℕ) (ec : c ≡ capacity v 3) where
-    pub boost_high : (l : ℕ) → l ≤ 3 → n ≤ c → 3 ≡ boosted v l n
-    unfolding boosted holds
-    boost_high zero h k = sym (highest_here 0 2 holds (yes_at 3 c ec k))
-    boost_high (suc zero) h k = sym (highest_here 1 1 holds (yes_at 3 c ec k))
-    boost_high (suc (suc zero)) h k = sym (highest_here 2 0 holds (yes_at 3 c ec k))
-    boost_high (suc (suc (suc zero))) h k = refl
-    boost_high (suc (suc (suc (suc l)))) h k = absurd (omega arith)
-
-    -- Quartile and High are as high as they can be
-    pub boost_none : (l : ℕ) → l ≤ 3 → c < n → 1 < l → l ≡ boosted v l n
-    unfolding boosted holds
-    boost_none zero h k m = absurd (omega arith)
-    boost_none (suc zero) h k m = absurd (omega arith)
-    boost_none (suc (suc zero)) h k m = sym (highest_lower 2 0 holds (not_at 3 c ec k))
-    boost_none (suc (suc (suc zero))) h k m = refl
-    boost_none (suc (suc (suc (suc l)))) h k m = absurd (omega arith)
-
-    module _ (d : ℕ) (ed : d ≡ capacity v 2) (above : c < n) where
-      pub boost_quartile : (l : ℕ) → l ≤ 1 → n ≤ d → 2 ≡ boosted v l n
-      unfolding boosted holds
-      boost_quartile zero h k = sym (highest_lower 0 2 holds (not_at 3 c ec above) ∙ highest_here 0 1 holds (yes_at 2 d ed k))
-      boost_quartile (suc zero) h k = sym (highest_lower 1 1 holds (not_at 3 c ec above) ∙ highest_here 1 0 holds (yes_at 2 d ed k))
-      boost_quartile (suc (suc l)) h k = absurd (omega arith)
-
-      pub boost_stays : (l : ℕ) → l ≤ 1 → 0 < l → d < n → l ≡ boosted v l n
-      unfolding boosted holds
-      boost_stays zero h m k = absurd (omega arith)
-      boost_stays (suc zero) h m k = sym (highest_lower 1 1 holds (not_at 3 c ec above) ∙ highest_lower 1 0 holds (not_at 2 d ed k))
-      boost_stays (suc (suc l)) h m k = absurd (omega arith)
-
-      pub boost_medium : (e l : ℕ) → e ≡ capacity v 1 → l ≤ 0 → d < n → n ≤ e → 1 ≡ boosted v l n
-      unfolding boosted holds
-      boost_medium e zero ee h k m =
-          sym (highest_lower 0 2 holds (not_at 3 c ec above) ∙ highest_lower 0 1 holds (not_at 2 d ed k) ∙ highest_here 0 0 holds (yes_at 1 e ee m))
-      boost_medium e (suc l) ee h k m = absurd (omega arith)
-
-      pub boost_low : (e l : ℕ) → e ≡ capacity v 1 → l ≤ 0 → d < n → e < n → l ≡ boosted v l n
-      unfolding boosted holds
-      boost_low e zero ee h k m =
-          sym (highest_lower 0 2 holds (not_at 3 c ec above) ∙ highest_lower 0 1 holds (not_at 2 d ed k) ∙ highest_lower 0 0 holds (not_at 1 e ee m))
-      boost_low e (suc l) ee h k m = absurd (omega arith)
-
-pub level_boosted : (v l n r : ℕ) (boost : Bool) → boost ≡ true → r ≡ boosted v l n → r ≡ final_level v l boost n
-unfolding final_level
-level_boosted v l n r boost e q = rw e q
-
-pub level_asked : (v l n : ℕ) (boost : Bool) → boost ≡ false → l ≡ final_level v l boost n
-unfolding final_level
-level_asked v l n boost e = rw e
+-- after all three it is the highest, not below l
+pub raised_all : (v n l r : ℕ) → l ≤ 3 → n ≤ capacity v l → r ≡ raised v n l 3 → r ≡ boosted v l n
+unfolding boosted raised
+raised_all v n zero r h fit e = e ∙ three (leb n (capacity v 1)) (leb n (capacity v 2)) (leb n (capacity v 3))
+  where
+    three : (a b c : Bool) → cond c 3 (cond b 2 (cond a 1 0)) ≡ elim c as (λ _. ℕ) [ true ↦ 3 | false ↦ elim b as (λ _. ℕ) [ true ↦ 2 | false ↦ elim a as (λ _. ℕ) [ true ↦ 1 | false ↦ 0 ] ] ]
+    three a b true = refl
+    three a true false = refl
+    three true false false = refl
+    three false false false = refl
+raised_all v n (suc zero) r h fit e = e ∙ rw (le-leb n (capacity v 1) fit) (two (leb n (capacity v 2)) (leb n (capacity v 3)))
+  where
+    two : (b c : Bool) → cond c 3 (cond b 2 1) ≡ elim c as (λ _. ℕ) [ true ↦ 3 | false ↦ elim b as (λ _. ℕ) [ true ↦ 2 | false ↦ 1 ] ]
+    two b true = refl
+    two true false = refl
+    two false false = refl
+raised_all v n (suc (suc zero)) r h fit e = e ∙ rw (le-leb n (capacity v 2) fit) (one (leb n (capacity v 3)))
+  where
+    one : (c : Bool) → cond c 3 2 ≡ elim c as (λ _. ℕ) [ true ↦ 3 | false ↦ 2 ]
+    one true = refl
+    one false = refl
+raised_all v n (suc (suc (suc zero))) r h fit e = e ∙ rw (le-leb n (capacity v 3) fit)
+raised_all v n (suc (suc (suc (suc l)))) r h fit e = absurd (omega arith)
 
 -- ---- the order of the refusals
 
-module _ (l first last m : ℕ) (boost : Bool) (text : List ℕ) (rs : List Part) where
-  pub plan_1 : 3 < l → unplanned (refusal 1 l 0) ≡ plan l first last m boost text rs
+module _ (l first last m : ℕ) (boost : Bool) (text : List ℕ) (rs : List Part) (one : l ≤ 3) (two : bad_range first last ≡ false) (three : m ≤ 8) (n : ℕ)
+    (count : length rs ≡ n) where
+  pub plan_4 : 2048 < n → unplanned (refusal 4 n 0) ≡ plan l first last m boost text rs
   unfolding plan
-  plan_1 h = rw (lt-ltb 3 l h)
+  plan_4 h = rw (le-ltb 3 l one, two, le-ltb 8 m three, count, lt-ltb 2048 n h)
 
-  module _ (one : l ≤ 3) where
-    pub plan_2 : (b : Bool) → b ≡ bad_range first last → b ≡ true → unplanned (refusal 2 first last) ≡ plan l first last m boost text rs
+  module _ (four : n ≤ 2048) (i : ℕ) (bad : i ≡ first_bad text rs) where
+    pub plan_5 : i < n → unplanned (refusal 5 i 0) ≡ plan l first last m boost text rs
     unfolding plan
-    plan_2 b e q = rw (le-ltb 3 l one, ← e, q)
+    plan_5 h = rw (le-ltb 3 l one, two, le-ltb 8 m three, count, le-ltb 2048 n four, ← bad, lt-ltb i n h)
 
-    module _ (b : Bool) (two : b ≡ bad_range first last) (fine : b ≡ false) where
-      range : bad_range first last ≡ false
-      range = sym two ∙ fine
-
-      pub plan_3 : 8 < m → unplanned (refusal 3 m 0) ≡ plan l first last m boost text rs
-      unfolding plan
-      plan_3 h = rw (le-ltb 3 l one, range, lt-ltb 8 m h)
-
-      module _ (three : m ≤ 8) (n : ℕ) (count : length rs ≡ n) where
-        pub plan_4 : 2048 < n → unplanned (refusal 4 n 0) ≡ plan l first last m boost text rs
-        unfolding plan
-        plan_4 h = rw (le-ltb 3 l one, range, le-ltb 8 m three, count, lt-ltb 2048 n h)
-
-        module _ (four : n ≤ 2048) (i : ℕ) (bad : i ≡ first_bad text rs) where
-          pub plan_5 : i < n → unplanned (refusal 5 i 0) ≡ plan l first last m boost text rs
-          unfolding plan
-          plan_5 h = rw (le-ltb 3 l one, range, le-ltb 8 m three, count, le-ltb 2048 n four, ← bad, lt-ltb i n h)
-
-          pub plan_6 : (p : Plan) → n ≤ i → p ≡ plan_fit l first last boost (segments_of text rs) → p ≡ plan l first last m boost text rs
-          unfolding plan
-          plan_6 p h e = rw (le-ltb 3 l one, range, le-ltb 8 m three, count, le-ltb 2048 n four, ← bad, le-ltb i n h) e
+    pub plan_6 : (p : Plan) → n ≤ i → p ≡ plan_fit l first last boost (segments_of text rs) → p ≡ plan l first last m boost text rs
+    unfolding plan
+    plan_6 p h e = rw (le-ltb 3 l one, two, le-ltb 8 m three, count, le-ltb 2048 n four, ← bad, le-ltb i n h) e
 
 -- ---- what the tests say
 
-module _ (first last : ℕ) (b : Bool) (e : b ≡ bad_range first last) (f : b ≡ false) where
+module _ (first last : ℕ) (f : bad_range first last ≡ false) where
   inside : leb 1 first && (leb first last && leb last 40) ≡ true
-  inside = not-false (leb 1 first && (leb first last && leb last 40)) (sym e ∙ f)
+  inside = not-false (leb 1 first && (leb first last && leb last 40)) f
 
   pub range_low : 1 ≤ first
   range_low = leb-true 1 first (and_first (leb 1 first) (leb first last && leb last 40) inside)
@@ -159,14 +106,10 @@ module _ (first last : ℕ) (b : Bool) (e : b ≡ bad_range first last) (f : b �
   range_high = leb-true last 40 (and_second (leb first last) (leb last 40) (and_second (leb 1 first) (leb first last && leb last 40) inside))
 
 -- no record is bad
-pub none_bad : (text ns : List ℕ) (i : ℕ) → i ≡ first_bad text (parts_of ns) → length ns / 4 ≤ i → T (every (good_part text) (parts_of ns))
-none_bad text ns i e h = all_good text (parts_of ns) (omega (arith, parts_length ns))
+pub none_bad : (text : List ℕ) (rs : List Part) → first_bad text rs ≡ length rs → T (every (good_part text) rs)
+none_bad text rs e = all_good text rs (omega arith)
 
 -- ---- data bits
 
 pub capacity_fits : (v l n : ℕ) → n ≡ data_codewords v l → 1 ≤ v → v ≤ 40 → l ≤ 3 → 8 * n < 2 ^ 64
 capacity_fits v l n e low high h = let p : PairRange v l = pair_range v l low high h in omega (arith, p.words)
-
-pub capacity_is : (v l n : ℕ) → n ≡ data_codewords v l → 8 * n ≡ capacity v l
-unfolding capacity
-capacity_is v l n e = ap (λ (k : ℕ). 8 * k) e

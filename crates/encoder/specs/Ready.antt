@@ -63,9 +63,9 @@ plan_ready l first last m boost text rs v k n q =
     let p3 = past (ltb 8 m) (refusal 3 m 0) _ v k n p2.1 in
     let p4 = past (ltb 2048 (length rs)) (refusal 4 (length rs) 0) _ v k n p3.1 in
     let p5 = past (ltb (first_bad text rs) (length rs)) (refusal 5 (first_bad text rs) 0) _ v k n p4.1 in
-    let low : 1 ≤ first = range_low first last (bad_range first last) refl p2.0 in
-    let mid : first ≤ last = range_mid first last (bad_range first last) refl p2.0 in
-    let high : last ≤ 40 = range_high first last (bad_range first last) refl p2.0 in
+    let low : 1 ≤ first = range_low first last p2.0 in
+    let mid : first ≤ last = range_mid first last p2.0 in
+    let high : last ≤ 40 = range_high first last p2.0 in
     let f = fit_planned l first last boost (segments_of text rs) v k n (omega arith) p5.1 in
     record {
       low = omega (arith, f.0);

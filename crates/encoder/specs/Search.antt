@@ -1,10 +1,10 @@
 -- The search for the lowest version of a range that fits: what each turn of the loop says of the definition's plan.
 -- Assumes nothing.
 use Prim.Native.Nat.{ℕ, suc, ◌+◌, ◌-◌, ◌≤◌, ◌<◌}
-use Rattle.std.specs.Prelude.{Bool, ◌&&◌, List}
+use Rattle.std.specs.Prelude.{Bool, ◌&&◌, List, Ok, Err}
 use Rattle.std.proofs.Math.Bool.{true, false, cond}
 use Rattle.std.proofs.Math.Path.{◌≡◌, refl, ap}
-use Rattle.std.proofs.Common.{sym, ap₂, ◌∙◌, add-one}
+use Rattle.std.proofs.Common.{sym, ◌∙◌, add-one}
 use native.Mathlib.Omega.{arith}
 use Rattle.std.proofs.Math.Dec.{leb}
 use borrow.Author.Tests.{le-ltb, lt-ltb, leb-true}
@@ -13,8 +13,9 @@ use Rattle.standard.specs.Sizes.{capacity}
 use Rattle.standard.specs.Segments.{Segment, total_bits, lengths_fit, fits}
 use Rattle.standard.specs.Plan.{Refusal, refusal, unplanned, planned, lowest_fit, too_long, levelled, plan_fit}
 use Rattle.laws.specs.Least.{least_here, least_later}
-use Rattle.encoder.specs.declared.plan.Fit.{Fit}
-use Rattle.encoder.specs.declared.plan.Fit.TheVariants.{Fits, TooMany, TooLong}
+use Rattle.encoder.specs.declared.Refusal.{Refusal as Told}
+use Rattle.encoder.specs.declared.Refusal.TheVariants.{SegmentTooLong, DataOverCapacity}
+use Rattle.encoder.specs.Answers.{number_of}
 use Rattle.encoder.specs.Fitting.{fit_at}
 use Rattle.encoder.specs.Planning.{final_level}
 
@@ -27,12 +28,12 @@ pub record Fitted (l : ℕ) (ss : List Segment) (v n : ℕ) : Type 0 where
   pub room : n ≤ capacity v l
 
 module _ (l : ℕ) (ss : List Segment) (v : ℕ) where
-  pub fitted : (n : ℕ) → Fits n ≡ fit_at l ss v → Fitted l ss v n
+  pub fitted : (n : ℕ) → Ok n ≡ fit_at l ss v → Fitted l ss v n
   unfolding fit_at fits
   fitted n e = go (lengths_fit v ss) refl (leb (total_bits v ss) (capacity v l)) refl e
     where
       go : (a : Bool) → lengths_fit v ss ≡ a → (b : Bool) → leb (total_bits v ss) (capacity v l) ≡ b
-          → Fits n ≡ cond a (cond b (Fits (total_bits v ss)) (TooMany (total_bits v ss) (capacity v l))) TooLong → Fitted l ss v n
+          → Ok n ≡ cond a (cond b (Ok (total_bits v ss)) (Err (DataOverCapacity (total_bits v ss) (capacity v l)))) (Err SegmentTooLong) → Fitted l ss v n
       go true p true q e =
           let same : n ≡ total_bits v ss = cc in
           record { fit = rw (p, q); bits = same; room = omega (arith, leb-true (total_bits v ss) (capacity v l) q) }
@@ -40,30 +41,16 @@ module _ (l : ℕ) (ss : List Segment) (v : ℕ) where
       go false p b q e = let z : ◌≡◌ {A = ℕ} 0 1 = cc in absurd (omega arith)
 
   -- it does not: the bits are too many, or some length is
-  pub unfit_bits : (n c : ℕ) → TooMany n c ≡ fit_at l ss v → (fits l ss v ≡ false) × (refusal 7 n c ≡ too_long l v ss)
+  pub unfit : (e : Told) → Err e ≡ fit_at l ss v → (fits l ss v ≡ false) × (number_of e ≡ too_long l v ss)
   unfolding fit_at fits too_long
-  unfit_bits n c e = go (lengths_fit v ss) refl (leb (total_bits v ss) (capacity v l)) refl e
+  unfit e q = go (lengths_fit v ss) refl (leb (total_bits v ss) (capacity v l)) refl q
     where
       go : (a : Bool) → lengths_fit v ss ≡ a → (b : Bool) → leb (total_bits v ss) (capacity v l) ≡ b
-          → TooMany n c ≡ cond a (cond b (Fits (total_bits v ss)) (TooMany (total_bits v ss) (capacity v l))) TooLong
-          → (lengths_fit v ss && leb (total_bits v ss) (capacity v l) ≡ false) × (refusal 7 n c ≡ too_long l v ss)
-      go true p true q e = let z : ◌≡◌ {A = ℕ} 0 1 = cc in absurd (omega arith)
-      go true p false q e =
-          let bits : n ≡ total_bits v ss = cc in
-          let room : c ≡ capacity v l = cc in
-          (rw (p, q), rw (p, bits, room))
-      go false p b q e = let z : ◌≡◌ {A = ℕ} 0 1 = cc in absurd (omega arith)
-
-  pub unfit_length : TooLong ≡ fit_at l ss v → (fits l ss v ≡ false) × (refusal 6 0 0 ≡ too_long l v ss)
-  unfolding fit_at fits too_long
-  unfit_length e = go (lengths_fit v ss) refl (leb (total_bits v ss) (capacity v l)) refl e
-    where
-      go : (a : Bool) → lengths_fit v ss ≡ a → (b : Bool) → leb (total_bits v ss) (capacity v l) ≡ b
-          → TooLong ≡ cond a (cond b (Fits (total_bits v ss)) (TooMany (total_bits v ss) (capacity v l))) TooLong
-          → (lengths_fit v ss && leb (total_bits v ss) (capacity v l) ≡ false) × (refusal 6 0 0 ≡ too_long l v ss)
-      go true p true q e = let z : ◌≡◌ {A = ℕ} 0 1 = cc in absurd (omega arith)
-      go true p false q e = let z : ◌≡◌ {A = ℕ} 0 1 = cc in absurd (omega arith)
-      go false p b q e = (rw p, rw p)
+          → Err e ≡ cond a (cond b (Ok (total_bits v ss)) (Err (DataOverCapacity (total_bits v ss) (capacity v l)))) (Err SegmentTooLong)
+          → (lengths_fit v ss && leb (total_bits v ss) (capacity v l) ≡ false) × (number_of e ≡ cond (lengths_fit v ss) (refusal 7 (total_bits v ss) (capacity v l)) (refusal 6 0 0))
+      go true p true q r = let z : ◌≡◌ {A = ℕ} 0 1 = cc in absurd (omega arith)
+      go true p false q r = let same : e ≡ DataOverCapacity (total_bits v ss) (capacity v l) = cc in (rw (p, q), rw (p, same))
+      go false p b q r = let same : e ≡ SegmentTooLong = cc in (rw p, rw (p, same))
 
 -- ---- the loop: no version below v fits
 
@@ -118,32 +105,21 @@ module _ (l first last : ℕ) (ss : List Segment) where
       let low : lowest_fit l first last ss ≡ v = found v st f.fit in
       rw (low, le-ltb last v st.high, f.bits)
 
-  -- ---- the same with what the code has in hand
+  -- ---- the same with what the code has in hand: version w, and what it says
 
-  module _ (k w : ℕ) (f : Fit) (e : f ≡ fit_at k ss w) (ek : k ≡ l) (v : ℕ) (ew : w ≡ v) (st : Searched l first last v ss) where
-    here : f ≡ fit_at l ss v
-    here = e ∙ ap (λ (a : ℕ). fit_at a ss w) ek ∙ ap (fit_at l ss) ew
+  module _ (v w : ℕ) (ew : w ≡ v) (st : Searched l first last v ss) where
+    pub none_here : (e : Told) → Err e ≡ fit_at l ss w → v < last → Searched l first last (v + 1) ss
+    none_here e q h = search_next v st (unfit l ss v e (q ∙ ap (fit_at l ss) ew)).0 h
 
-    pub bits_next : (n c : ℕ) → f ≡ TooMany n c → v < last → Searched l first last (v + 1) ss
-    bits_next n c q h = search_next v st (unfit_bits l ss v n c (sym q ∙ here)).0 h
+    pub none_last : (e : Told) (boost : Bool) → Err e ≡ fit_at l ss w → last ≤ v → unplanned (number_of e) ≡ plan_fit l first last boost ss
+    none_last e boost q h = missed_plan boost v (number_of e) st (unfit l ss v e (q ∙ ap (fit_at l ss) ew)) h
 
-    pub bits_last : (n c : ℕ) (boost : Bool) → f ≡ TooMany n c → last ≤ v → unplanned (refusal 7 n c) ≡ plan_fit l first last boost ss
-    bits_last n c boost q h = missed_plan boost v (refusal 7 n c) st (unfit_bits l ss v n c (sym q ∙ here)) h
-
-    pub length_next : f ≡ TooLong → v < last → Searched l first last (v + 1) ss
-    length_next q h = search_next v st (unfit_length l ss v (sym q ∙ here)).0 h
-
-    pub length_last : (boost : Bool) → f ≡ TooLong → last ≤ v → unplanned (refusal 6 0 0) ≡ plan_fit l first last boost ss
-    length_last boost q h = missed_plan boost v (refusal 6 0 0) st (unfit_length l ss v (sym q ∙ here)) h
-
-    module _ (n : ℕ) (q : f ≡ Fits n) (u : ℕ) (eu : u ≡ v) where
+    module _ (n : ℕ) (q : Ok n ≡ fit_at l ss w) where
       fit_here : Fitted l ss v n
-      fit_here = fitted l ss v n (sym q ∙ here)
+      fit_here = fitted l ss v n (q ∙ ap (fit_at l ss) ew)
 
-      pub found_room : n ≤ capacity u l
-      found_room = rw eu fit_here.room
+      pub found_room : n ≤ capacity w l
+      found_room = rw ew fit_here.room
 
-      pub found_last : (r t : ℕ) (boost : Bool) → r ≡ final_level u l boost n → t ≡ r → planned u t n ≡ plan_fit l first last boost ss
-      found_last r t boost er et =
-          ap₂ (λ (a b : ℕ). planned a b n) eu (et ∙ er ∙ ap (λ (a : ℕ). final_level a l boost n) eu)
-          ∙ found_plan boost v n st fit_here
+      pub found_last : (a t b : ℕ) (boost : Bool) → t ≡ final_level w l boost n → a ≡ w → b ≡ n → planned a t b ≡ plan_fit l first last boost ss
+      found_last a t b boost et ea eb = rw (eb, et, ea, ew) (found_plan boost v n st fit_here)

@@ -3,18 +3,21 @@
 
 ghost use Rattle.std.specs.Prelude.{◌≡◌, ◌≤◌};
 ghost use Rattle.standard.specs.Encode.{encode, encode_text, encode_bytes, encode_codewords};
+ghost use Rattle.types.specs.Numbers.{level_of};
+ghost use Rattle.types.specs.Masks.{mask_number};
 ghost use Rattle.segments.specs.Records.{parts_of};
 ghost use Rattle.encoder.specs.Answers.{answer_of};
 ghost use Rattle.encoder.specs.Entries.{numbers_in};
 
-mod plan; // plan.rt: version and level for a list of records
 mod draw; // draw.rt: data codewords, blocks, modules, mask
+mod plan; // plan.rt: version and level for a list of records
+mod settings; // settings.rt: what the numbers of an entry stand for
 
-use plan::Planning;
-use types::{Mask, QrCodeEcc, Version};
+pub use settings::Settings;
+use types::{Mask, QrCodeEcc, TextKind, Version};
 
 // Why there is no label; document 01's refusals 1 to 10 in their order.
-#[derive(Clone, Copy)]
+#[derive(Clone, Copy, PartialEq, Eq)]
 pub enum Refusal {
     Level(u8),
     Versions { first: u8, last: u8 },
@@ -28,20 +31,18 @@ pub enum Refusal {
     DataLength(usize),
 }
 
-// What an entry answers.
-#[derive(Clone, Copy)]
-pub enum Outcome {
-    Label {
-        version: Version,
-        level: QrCodeEcc,
-        mask: Mask,
-    },
-    Refused(Refusal),
+// Which label was drawn.
+#[derive(Clone, Copy, PartialEq, Eq)]
+pub struct Label {
+    pub version: Version,
+    pub level: QrCodeEcc,
+    pub mask: Mask,
 }
 
 // Returns a label of the given records over one text, with the given encoding parameters.
 // The smallest possible version within the given range is automatically chosen; with boostecl the level
 // may be higher than the one asked for, if that does not take a higher version. Mask 8 is the automatic choice.
+#[tactic(auto, using(crate::specs::Entries::asked_refused))]
 pub fn encode_segments_advanced(
     text: &[u8],
     records: &[u64],
@@ -52,28 +53,26 @@ pub fn encode_segments_advanced(
     boostecl: bool,
     grid: &mut [u8],
     scratch: &mut [u8],
-) -> Outcome
+) -> Result<Label, Refusal>
     ensures { record { answer = answer_of result; grid = grid.new; scratch = scratch.new } ≡ encode level minversion maxversion mask boostecl text.now (parts_of records.now) grid.old scratch.old }
 {
-    let p = plan::plan(level, minversion, maxversion, mask, boostecl, text, records);
-    match p {
-        Planning::Refused(e) => Outcome::Refused(e),
-        Planning::Planned {
-            version,
-            level,
-            bits,
-        } => draw::draw_plan(text, records, version, level, mask, grid, scratch),
-    }
+    let settings = Settings::new(level, minversion, maxversion, mask, boostecl)?;
+    encode_records(text, records, settings, grid, scratch)
 }
 
-// How many numbers the records of a text are: none of an empty text, else those of one record.
-fn text_numbers(text: &[u8]) -> usize
-    ensures { (result ≡ numbers_in text.now) × (result ≤ 4) }
+// The same with settings that are known to be right.
+#[tactic(auto, unfolding(standard::specs::Encode::encode, standard::specs::Encode::draw_plan))]
+pub fn encode_records(
+    text: &[u8],
+    records: &[u64],
+    settings: Settings,
+    grid: &mut [u8],
+    scratch: &mut [u8],
+) -> Result<Label, Refusal>
+    ensures { record { answer = answer_of result; grid = grid.new; scratch = scratch.new } ≡ encode (level_of settings.level) settings.minversion.value settings.maxversion.value (mask_number settings.mask) settings.boostecl text.now (parts_of records.now) grid.old scratch.old }
 {
-    if text.len() == 0 {
-        return 0;
-    }
-    4
+    let plan = plan::make_plan(settings, text, records)?;
+    draw::draw_plan(text, records, plan, settings.mask, grid, scratch)
 }
 
 // Returns a label of the given text: Numeric if every byte is a digit, else Alphanumeric if every byte stands in the
@@ -87,14 +86,14 @@ pub fn encode_text(
     boostecl: bool,
     grid: &mut [u8],
     scratch: &mut [u8],
-) -> Outcome
+) -> Result<Label, Refusal>
     ensures { record { answer = answer_of result; grid = grid.new; scratch = scratch.new } ≡ encode_text level minversion maxversion mask boostecl text.now grid.old scratch.old }
 {
     let seg = segments::records::whole_record(segments::text_kind(text), text);
-    let n = text_numbers(text);
+    let n = if text.is_empty() { 0 } else { 4 };
     encode_segments_advanced(
         text,
-        &seg[0..n],
+        &seg[..n],
         level,
         minversion,
         maxversion,
@@ -115,25 +114,17 @@ pub fn encode_binary(
     boostecl: bool,
     grid: &mut [u8],
     scratch: &mut [u8],
-) -> Outcome
+) -> Result<Label, Refusal>
     ensures { record { answer = answer_of result; grid = grid.new; scratch = scratch.new } ≡ encode_bytes level minversion maxversion mask boostecl «data».now grid.old scratch.old }
 {
-    let seg = segments::records::whole_record(2, data);
-    let n: usize = 4;
+    let seg = segments::records::whole_record(TextKind::Byte, data);
     encode_segments_advanced(
-        data,
-        &seg[0..n],
-        level,
-        minversion,
-        maxversion,
-        mask,
-        boostecl,
-        grid,
-        scratch,
+        data, &seg, level, minversion, maxversion, mask, boostecl, grid, scratch,
     )
 }
 
 // Returns a label of the given data codewords, at the given version and level. Mask 8 is the automatic choice.
+#[tactic(auto, unfolding(standard::specs::Encode::encode_codewords))]
 pub fn encode_codewords(
     version: u8,
     level: u8,
@@ -141,32 +132,18 @@ pub fn encode_codewords(
     mask: u8,
     grid: &mut [u8],
     scratch: &mut [u8],
-) -> Outcome
+) -> Result<Label, Refusal>
     ensures { record { answer = answer_of result; grid = grid.new; scratch = scratch.new } ≡ encode_codewords level version mask «data».now grid.old scratch.old }
 {
-    if 3 < level {
-        return Outcome::Refused(Refusal::Level(level));
-    }
-    if version < 1 {
-        return Outcome::Refused(Refusal::Versions {
-            first: version,
-            last: version,
-        });
-    }
-    if 40 < version {
-        return Outcome::Refused(Refusal::Versions {
-            first: version,
-            last: version,
-        });
-    }
-    if 8 < mask {
-        return Outcome::Refused(Refusal::MaskNumber(mask));
-    }
-    let ver = types::version_at(version);
-    let ecl = types::level_at(level);
+    let ecl = QrCodeEcc::try_from(level)?;
+    let ver = Version::new(version).ok_or(Refusal::Versions {
+        first: version,
+        last: version,
+    })?;
+    let msk = settings::mask_of(mask)?;
     let n = capacity::get_num_data_codewords(ver, ecl);
     if data.len() != n {
-        return Outcome::Refused(Refusal::DataLength(n));
+        return Err(Refusal::DataLength(n));
     }
-    draw::draw(ver, ecl, mask, data, grid, scratch)
+    draw::draw(ver, ecl, msk, data, grid, scratch)
 }

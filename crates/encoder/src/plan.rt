@@ -1,191 +1,111 @@
-// Planning touches no buffer: the version and the level that a list of records takes, or refusal 1 to 7.
+// Planning touches no buffer: the version and the level that a list of records takes, or refusal 4 to 7.
 ghost use Rattle.std.specs.Prelude.{◌≡◌, ◌*◌, ◌≤◌, T, length};
 ghost use Rattle.standard.specs.Numbers.{every};
 ghost use Rattle.standard.specs.Sizes.{capacity};
 ghost use Rattle.standard.specs.Segments.{segments_of, good_part};
 ghost use Rattle.standard.specs.Plan.{boosted as boosted_to, plan_fit, plan as planned};
 ghost use Rattle.types.specs.Numbers.{level_of};
+ghost use Rattle.types.specs.Masks.{mask_number};
 ghost use Rattle.segments.specs.Records.{parts_of};
 ghost use Rattle.encoder.specs.Answers.{plan_of};
 ghost use Rattle.encoder.specs.Fitting.{fit_at};
-ghost use Rattle.encoder.specs.Planning.{bad_range, final_level};
+ghost use Rattle.encoder.specs.Planning.{final_level};
 
-use super::Refusal;
-use segments::TotalBits;
+use super::{Refusal, Settings};
 use types::{QrCodeEcc, Version};
 
-// A plan: version, level and the bits used, or why there is none.
+// The version and level of a label, and the bits that its records take.
 #[derive(Clone, Copy)]
-pub(crate) enum Planning {
-    Planned {
-        version: Version,
-        level: QrCodeEcc,
-        bits: usize,
-    },
-    Refused(Refusal),
-}
-
-// How a list of records fits one version: the bits used, or that they are too many, or that some length is.
-#[derive(Clone, Copy)]
-enum Fit {
-    Fits(usize),
-    TooMany { bits: usize, capacity: usize },
-    TooLong,
+pub(crate) struct Plan {
+    pub version: Version,
+    pub level: QrCodeEcc,
+    pub bits: usize,
 }
 
 // Returns the data bits that the given version holds at the given level.
+#[tactic(auto, using(crate::specs::Planning::capacity_fits, types::specs::Laws::level_le), unfolding(standard::specs::Sizes::capacity))]
 fn capacity_bits(ver: Version, ecl: QrCodeEcc) -> usize
     ensures { result ≡ capacity ver.value (level_of ecl) }
 {
     8 * capacity::get_num_data_codewords(ver, ecl)
 }
 
-// Tests one version.
-fn fit_at(text: &[u8], records: &[u64], ver: Version, ecl: QrCodeEcc) -> Fit
+// Tests one version: the bits used, or refusal 6 or 7 where they do not fit.
+#[tactic(auto, unfolding(crate::specs::Fitting::fit_at, segments::specs::Totals::total_of))]
+fn fit_at(text: &[u8], records: &[u64], ver: Version, ecl: QrCodeEcc) -> Result<usize, Refusal>
     requires { (length records.now ≤ 8195) × T (every (good_part text.now) (parts_of records.now)) }
     ensures { result ≡ fit_at (level_of ecl) (segments_of text.now (parts_of records.now)) ver.value }
 {
-    let datacapacitybits = capacity_bits(ver, ecl);
-    let dataused = segments::records::get_total_bits(text, records, ver);
-    match dataused {
-        TotalBits::Bits(n) => {
-            if n <= datacapacitybits {
-                Fit::Fits(n)
-            } else {
-                Fit::TooMany {
-                    bits: n,
-                    capacity: datacapacitybits,
-                }
-            }
-        }
-        TotalBits::TooLong => Fit::TooLong,
+    let capacity = capacity_bits(ver, ecl);
+    let bits = segments::records::get_total_bits(text, records, ver).ok_or(
+        Refusal::SegmentTooLong,
+    )?;
+    if capacity < bits {
+        return Err(Refusal::DataOverCapacity { bits, capacity });
     }
+    Ok(bits)
 }
 
 // Increases the error correction level while the data still fits in the current version number.
-fn boosted(ver: Version, level: u8, datausedbits: usize) -> u8
-    requires { (level ≤ 3) × (datausedbits ≤ capacity ver.value level) }
-    ensures { (result ≡ boosted_to ver.value level datausedbits) × (result ≤ 3) }
+fn boosted(ver: Version, ecl: QrCodeEcc, datausedbits: usize) -> QrCodeEcc
+    requires { datausedbits ≤ capacity ver.value (level_of ecl) }
+    ensures { level_of result ≡ boosted_to ver.value (level_of ecl) datausedbits }
 {
-    if datausedbits <= capacity_bits(ver, QrCodeEcc::High) {
-        return 3;
+    let mut ecl = ecl;
+    // From low to high
+    for newecl in [QrCodeEcc::Medium, QrCodeEcc::Quartile, QrCodeEcc::High] {
+        if datausedbits <= capacity_bits(ver, newecl) {
+            ecl = newecl;
+        }
     }
-    if 1 < level {
-        return level;
-    }
-    if datausedbits <= capacity_bits(ver, QrCodeEcc::Quartile) {
-        return 2;
-    }
-    if 0 < level {
-        return level;
-    }
-    if datausedbits <= capacity_bits(ver, QrCodeEcc::Medium) {
-        return 1;
-    }
-    level
+    ecl
 }
 
-// The level that the data get: the one asked for, or the highest that still holds them.
-fn final_level(ver: Version, level: u8, boostecl: bool, datausedbits: usize) -> u8
-    requires { (level ≤ 3) × (datausedbits ≤ capacity ver.value level) }
-    ensures { (result ≡ final_level ver.value level boostecl datausedbits) × (result ≤ 3) }
+// The plan of a version that holds the data: its level is the one asked for, or the highest that still holds them.
+#[tactic(auto, unfolding(crate::specs::Planning::final_level))]
+fn plan_at(settings: Settings, version: Version, bits: usize) -> Plan
+    requires { bits ≤ capacity version.value (level_of settings.level) }
+    ensures { (level_of result.level ≡ final_level version.value (level_of settings.level) settings.boostecl bits) × (result.version.value ≡ version.value) × (result.bits ≡ bits) }
 {
-    if boostecl {
-        return boosted(ver, level, datausedbits);
+    let level = if settings.boostecl {
+        boosted(version, settings.level, bits)
+    } else {
+        settings.level
+    };
+    Plan {
+        version,
+        level,
+        bits,
     }
-    level
 }
 
 // Finds the minimal version number to use, testing each one of the range.
-fn plan_fit(
-    level: u8,
-    minversion: u8,
-    maxversion: u8,
-    boostecl: bool,
-    text: &[u8],
-    records: &[u64],
-) -> Planning
-    requires level_bound { (level ≤ 3) × (1 ≤ minversion) × (minversion ≤ maxversion) × (maxversion ≤ 40) }
-    requires records_len_bound { (length records.now ≤ 8195) × T (every (good_part text.now) (parts_of records.now)) }
-    ensures { plan_of result ≡ plan_fit level minversion maxversion boostecl (segments_of text.now (parts_of records.now)) }
+fn plan_fit(settings: Settings, text: &[u8], records: &[u64]) -> Result<Plan, Refusal>
+    requires { (length records.now ≤ 8195) × T (every (good_part text.now) (parts_of records.now)) }
+    ensures { plan_of result ≡ plan_fit (level_of settings.level) settings.minversion.value settings.maxversion.value settings.boostecl (segments_of text.now (parts_of records.now)) }
 {
-    let ecl = types::level_at(level);
-    let mut version = minversion;
-    let datausedbits = loop {
-        let fit = fit_at(text, records, types::version_at(version), ecl);
-        match fit {
-            Fit::Fits(n) => {
-                break n;
-            }
-            Fit::TooMany { bits, capacity } => {
-                if maxversion <= version {
-                    return Planning::Refused(Refusal::DataOverCapacity {
-                        bits: bits,
-                        capacity: capacity,
-                    });
-                }
-                version += 1;
-            }
-            Fit::TooLong => {
-                if maxversion <= version {
-                    return Planning::Refused(Refusal::SegmentTooLong);
-                }
-                version += 1;
-            }
+    let last = settings.maxversion;
+    for v in settings.minversion.value()..last.value() {
+        let version = types::version_at(v);
+        if let Ok(bits) = fit_at(text, records, version, settings.level) {
+            return Ok(plan_at(settings, version, bits));
         }
-    };
-    let ver = types::version_at(version);
-    Planning::Planned {
-        version: ver,
-        level: types::level_at(final_level(ver, level, boostecl, datausedbits)),
-        bits: datausedbits,
     }
+    // The last one alone decides which refusal it is.
+    let bits = fit_at(text, records, last, settings.level)?;
+    Ok(plan_at(settings, last, bits))
 }
 
-// Whether a version bound lies outside 1..40, or the first is above the last.
-fn bad_range(first: u8, last: u8) -> bool
-    ensures { result ≡ bad_range first last }
+// Plans a label of the given records: refusals 4 to 7 in their order, or version, level and bits.
+pub(crate) fn make_plan(settings: Settings, text: &[u8], records: &[u64]) -> Result<Plan, Refusal>
+    ensures { plan_of result ≡ planned (level_of settings.level) settings.minversion.value settings.maxversion.value (mask_number settings.mask) settings.boostecl text.now (parts_of records.now) }
 {
-    if first < 1 {
-        return true;
-    }
-    if last < first {
-        return true;
-    }
-    40 < last
-}
-
-// Plans a label of the given records: refusals 1 to 7 in their order, or version, level and bits.
-pub(crate) fn plan(
-    level: u8,
-    minversion: u8,
-    maxversion: u8,
-    mask: u8,
-    boostecl: bool,
-    text: &[u8],
-    records: &[u64],
-) -> Planning
-    ensures { plan_of result ≡ planned level minversion maxversion mask boostecl text.now (parts_of records.now) }
-{
-    if 3 < level {
-        return Planning::Refused(Refusal::Level(level));
-    }
-    if bad_range(minversion, maxversion) {
-        return Planning::Refused(Refusal::Versions {
-            first: minversion,
-            last: maxversion,
-        });
-    }
-    if 8 < mask {
-        return Planning::Refused(Refusal::MaskNumber(mask));
-    }
     let n = records.len() / 4;
     if 2048 < n {
-        return Planning::Refused(Refusal::Records(n));
+        return Err(Refusal::Records(n));
     }
-    let bad = segments::records::first_bad(text, records);
-    if bad < n {
-        return Planning::Refused(Refusal::Record(bad));
+    if let Some(i) = segments::records::first_bad(text, records) {
+        return Err(Refusal::Record(i));
     }
-    plan_fit(level, minversion, maxversion, boostecl, text, records)
+    plan_fit(settings, text, records)
 }

@@ -61,7 +61,7 @@ pub extern "C" fn gatemurmur_encode_text(
     let o = encoder::encode_text(
         text, level, minversion, maxversion, mask, boostecl, grid, scratch,
     );
-    answers::of_outcome(o)
+    Answer::from(o)
 }
 
 // Draws a label of the given binary data, as one Byte segment.
@@ -81,7 +81,7 @@ pub extern "C" fn gatemurmur_encode_binary(
     let o = encoder::encode_binary(
         data, level, minversion, maxversion, mask, boostecl, grid, scratch,
     );
-    answers::of_outcome(o)
+    Answer::from(o)
 }
 
 // Draws a label of the given records over one text.
@@ -102,7 +102,7 @@ pub extern "C" fn gatemurmur_encode_segments(
     let o = records::encode_segments_advanced(
         text, records, level, minversion, maxversion, mask, boostecl, grid, scratch,
     );
-    answers::of_outcome(o)
+    Answer::from(o)
 }
 
 // Draws a label of the given data codewords, at the given version and level.
@@ -118,7 +118,7 @@ pub extern "C" fn gatemurmur_encode_codewords(
     ensures { record { answer = result; grid = grid.new; scratch = scratch.new } ≡ told (encode_codewords level version mask «data».now grid.old scratch.old) }
 {
     let o = encoder::encode_codewords(version, level, data, mask, grid, scratch);
-    answers::of_outcome(o)
+    Answer::from(o)
 }
 
 // Whether the module in column x and row y is dark.
@@ -141,5 +141,5 @@ pub extern "C" fn gatemurmur_read(
     ensures { Tells grid.now size text.old (parts records.old) scratch.old (record { answer = result; text = text.new; records = parts records.new; scratch = scratch.new }) }
 {
     let o = records::read(grid, size, text, records, scratch);
-    readings::of_outcome(o)
+    Reading::from(o)
 }

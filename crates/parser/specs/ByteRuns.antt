@@ -1,22 +1,20 @@
 -- A run in Byte mode: every eight bits are a character, so its end is known without a look at them, and character j is the field j.
 -- Assumes nothing.
 use Prim.Native.Nat.{ℕ, zero, suc, ◌+◌, ◌-◌, ◌*◌, ◌/◌, ◌%◌, ◌≤◌, ◌<◌}
-use Rattle.std.specs.Prelude.{◌≡◌, List, ◌∷◌, ◌++◌, length, get_or, set}
+use Rattle.std.specs.Prelude.{◌≡◌, List, ◌∷◌, ◌++◌, length, get_or, set, Ok}
 use Rattle.std.proofs.Math.Path.{refl, sym, ap, ap₂}
-use Rattle.std.proofs.Common.{◌∙◌, zero-lt-suc, div-one, add-one}
+use Rattle.std.proofs.Common.{◌∙◌, zero-lt-suc, div-one}
 use native.Mathlib.Omega.{arith}
 use Rattle.std.proofs.Math.Nat.{mod-eq_of_lt}
-use Rattle.std.proofs.Math.Seq.{paste, paste-suc}
 use Rattle.standard.specs.Bits.{unpack}
 use Rattle.laws.specs.Lists.{length_unpack}
 use Rattle.bits.specs.Fields.{field, binary_unpack, field_lt}
 use Rattle.segments.specs.Kinds.{width, char_of, group_chars}
 use Rattle.segments.specs.Runs.{part}
-use Rattle.parser.specs.declared.Groups.{Groups}
-use Rattle.parser.specs.declared.Groups.TheVariants.{Next, Fault}
+use Rattle.parser.specs.Faults.{Ends, fault_at}
 use Rattle.parser.specs.Runs.{run_end, run_chars, run_length}
-use Rattle.parser.specs.CodeRuns.{run_short, run_next}
-use Rattle.parser.specs.CodeWrites.{open_room, open_next}
+use Rattle.parser.specs.Filled.{filled, filled_set, filled_whole}
+use Rattle.parser.specs.CodeRuns.{run_short, run_next, full_cases}
 
 -- a group is one character
 one : (n : ℕ) → 1 ≡ part 2 (suc n)
@@ -37,30 +35,31 @@ module _ (buf : List ℕ) where
       (field (unpack buf) p 8) 256 refl refl (omega arith) (byte_lt p (field (unpack buf) p 8) refl r)
       ∙ ap (λ (i : ℕ). run_end 2 (unpack buf) i (p + 8) i) (less n)
 
-  pub byte_fits : (p n : ℕ) → p + 8 * n ≤ 8 * length buf → Next (p + 8 * n) ≡ run_end 2 (unpack buf) n p n
+  pub byte_fits : (p n : ℕ) → p + 8 * n ≤ 8 * length buf → Ok (p + 8 * n) ≡ run_end 2 (unpack buf) n p n
   unfolding run_end
-  byte_fits p zero r = let e : p + 8 * 0 ≡ p = omega arith in ap Next e
+  byte_fits p zero r = let e : p + 8 * 0 ≡ p = omega arith in ap Ok e
   byte_fits p (suc n) r =
       let e : p + 8 * suc n ≡ p + 8 + 8 * n = omega arith in
-      ap Next e ∙ byte_fits (p + 8) n (omega arith) ∙ sym (byte_turn p n (omega arith))
+      ap Ok e ∙ byte_fits (p + 8) n (omega arith) ∙ sym (byte_turn p n (omega arith))
 
-  pub byte_cut : (p q n : ℕ) → q < n → p + 8 * q ≤ 8 * length buf → 8 * length buf < p + 8 * q + 8 → Fault (p + 8 * q) ≡ run_end 2 (unpack buf) n p n
+  pub byte_cut : (p q n : ℕ) → q < n → p + 8 * q ≤ 8 * length buf → 8 * length buf < p + 8 * q + 8 → fault_at (p + 8 * q) ≡ run_end 2 (unpack buf) n p n
   byte_cut p q zero h r s = absurd (omega arith)
   byte_cut p zero (suc n) h r s =
       let e : p + 8 * 0 ≡ p = omega arith in
-      ap Fault e ∙ run_short 2 buf (run_end 2 (unpack buf) (suc n) p (suc n)) p (suc n) 1 8 refl (one n) refl (zero-lt-suc n) (omega arith)
+      ap fault_at e ∙ run_short 2 buf (run_end 2 (unpack buf) (suc n) p (suc n)) p (suc n) 1 8 refl (one n) refl (zero-lt-suc n) (omega arith)
   byte_cut p (suc q) (suc n) h r s =
       let e : p + 8 * suc q ≡ p + 8 + 8 * q = omega arith in
-      ap Fault e ∙ byte_cut (p + 8) q n (omega arith) (omega arith) (omega arith) ∙ sym (byte_turn p n (omega arith))
+      ap fault_at e ∙ byte_cut (p + 8) q n (omega arith) (omega arith) (omega arith) ∙ sym (byte_turn p n (omega arith))
 
-  byte_room : (p n end : ℕ) → run_end 2 (unpack buf) n p n ≡ Next end → 8 * n ≤ 8 * length buf - p
+  byte_room : (p n end : ℕ) → run_end 2 (unpack buf) n p n ≡ Ok end → 8 * n ≤ 8 * length buf - p
   byte_room p zero end e = omega arith
   byte_room p (suc n) end e =
-      let r : p + 8 ≤ 8 * length buf = open_room 2 buf p (suc n) end 1 8 e (one n) refl (zero-lt-suc n) in
-      let next : run_end 2 (unpack buf) n (p + 8) n ≡ Next end
-      = ap (λ (i : ℕ). run_end 2 (unpack buf) i (p + 8) i) (sym (less n)) ∙ open_next 2 buf p (suc n) end 1 8 e (one n) refl (zero-lt-suc n) in
-      let i : 8 * n ≤ 8 * length buf - (p + 8) = byte_room (p + 8) n end next in
-      omega arith
+      let next : (p + 8 ≤ length (unpack buf)) × (run_end 2 (unpack buf) n (p + 8) n ≡ Ok end)
+      = full_cases 2 (unpack buf) p (suc n) 1 refl (omega arith)
+      (λ a b. let q : ◌≡◌ {A = Ends} (fault_at p) (Ok end) = sym b ∙ e in cc)
+      (λ r a b. (r, ap (λ (i : ℕ). run_end 2 (unpack buf) i (p + 8) i) (sym (less n)) ∙ sym b ∙ e)) in
+      let i : 8 * n ≤ 8 * length buf - (p + 8) = byte_room (p + 8) n end next.1 in
+      omega (arith, next.0, length_unpack buf)
 
   -- ---- its characters
 
@@ -82,22 +81,16 @@ module _ (buf : List ℕ) where
       ap (λ (l : List ℕ). get_or l (suc j) 0) (chars_cons p n (omega arith))
       ∙ byte_char (p + 8) n j (omega arith) (omega arith) ∙ ap (λ (i : ℕ). field (unpack buf) i 8) e
 
-  pub byte_next : (o out : List ℕ) (p n to j v : ℕ) → out ≡ paste o to (run_chars 2 (unpack buf) n p n) j → v ≡ field (unpack buf) (p + 8 * j) 8 → j < n
-      → 8 * n ≤ 8 * length buf - p → to + n ≤ length o → set out (to + j) v ≡ paste o to (run_chars 2 (unpack buf) n p n) (j + 1)
-  byte_next o out p n to j v inv ev h r room =
-      let s : List ℕ = run_chars 2 (unpack buf) n p n in
-      let c : v ≡ get_or s j 0 = ev ∙ sym (byte_char p n j h (omega arith)) in
-      ap₂ (λ (l : List ℕ) (b : ℕ). set l (to + j) b) inv c
-      ∙ paste-suc o to s j 0 (omega arith) (omega (arith, run_length 2 (unpack buf) n p n (omega arith)))
-      ∙ ap (paste o to s) (sym (add-one j))
+  pub byte_next : (o out : List ℕ) (p n j v : ℕ) → out ≡ filled o (run_chars 2 (unpack buf) n p n) j → v ≡ field (unpack buf) (p + 8 * j) 8 → j < n
+      → 8 * n ≤ 8 * length buf - p → length o ≡ n → set out j v ≡ filled o (run_chars 2 (unpack buf) n p n) (j + 1)
+  byte_next o out p n j v inv ev h r long =
+      filled_set o (run_chars 2 (unpack buf) n p n) out j v inv (omega arith) (omega (arith, run_length 2 (unpack buf) n p n (omega arith)))
+      (ev ∙ sym (byte_char p n j h (omega arith)))
+
+  pub byte_whole : (o out : List ℕ) (p n j : ℕ) → out ≡ filled o (run_chars 2 (unpack buf) n p n) j → length o ≡ n → n ≤ j → out ≡ run_chars 2 (unpack buf) n p n
+  byte_whole o out p n j inv long h = inv ∙ filled_whole o (run_chars 2 (unpack buf) n p n) j (omega arith) (omega (arith, run_length 2 (unpack buf) n p n (omega arith)))
 
   -- ---- the same where the kind is known to be 2
 
-  pub byte_is : (k : ℕ) (g : Groups) (p n : ℕ) → g ≡ run_end 2 (unpack buf) n p n → k ≡ 2 → g ≡ run_end k (unpack buf) n p n
-  byte_is k g p n e h = e ∙ ap (λ (i : ℕ). run_end i (unpack buf) n p n) (sym h)
-
-  pub bytes_room : (k p n end : ℕ) → k ≡ 2 → (k < 3 → run_end k (unpack buf) n p n ≡ Next end) → 8 * n ≤ 8 * length buf - p
+  pub bytes_room : (k p n end : ℕ) → k ≡ 2 → (k < 3 → run_end k (unpack buf) n p n ≡ Ok end) → 8 * n ≤ 8 * length buf - p
   bytes_room k p n end h e = byte_room p n end (ap (λ (i : ℕ). run_end i (unpack buf) n p n) (sym h) ∙ e (omega arith))
-
-  pub bytes_written : (o new : List ℕ) (k to p n : ℕ) → new ≡ paste o to (run_chars 2 (unpack buf) n p n) n → k ≡ 2 → new ≡ paste o to (run_chars k (unpack buf) n p n) n
-  bytes_written o new k to p n e h = e ∙ ap (λ (i : ℕ). paste o to (run_chars i (unpack buf) n p n) n) (sym h)

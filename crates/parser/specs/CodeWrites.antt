@@ -1,18 +1,19 @@
 -- Laws that the proofs of the functions that write characters cite: a digit, a group, a run.
 -- Assumes nothing.
-use Rattle.std.specs.Prelude.{ℕ, zero, suc, ◌+◌, ◌-◌, ◌*◌, ◌/◌, ◌%◌, ◌^◌, ◌≤◌, ◌<◌, Bool, true, false, ◌≡◌, refl, List, ◌++◌, leb, ltb, length, get_or, set, take, drop}
-use Rattle.std.proofs.Common.{sym, ap, ap₂, ◌∙◌, subst, append_assoc, append-nil, arith, mod-lt, div-one, le_of_suc-le-suc, not-suc-le-zero, add-one, leb-true, drop_at, take-add, drop-drop, take_at, take_all}
-use Rattle.std.proofs.Math.Nat.{pow-zero}
-use Rattle.std.proofs.Math.Seq.{paste, paste-zero, paste-suc}
-use Rattle.std.proofs.lemmas.List.Edits.{take-paste, drop-paste}
+use Rattle.std.specs.Prelude.{ℕ, zero, suc, ◌+◌, ◌-◌, ◌*◌, ◌/◌, ◌%◌, ◌^◌, ◌≤◌, ◌<◌, Bool, true, false, ◌≡◌, refl, List, [], ◌∷◌, ◌++◌, leb, ltb, length, get_or, set, take, drop, Ok, IsOk}
+use Rattle.std.proofs.Common.{true≢false, sym, ap, ap₂, ◌∙◌, subst, append-nil, arith, mod-lt, div-one, le_of_suc-le-suc, not-suc-le-zero, add-one, leb-true, length-take, length-drop, drop_at, drop-drop, take_at, take_all}
+use Rattle.std.specs.Result.{is_ok}
+use Rattle.std.proofs.Math.Nat.{pow-zero, mul-suc}
+use borrow.Rule.Slice.PartMut.{put_mid}
+use Rattle.laws.specs.Tests.{split}
 use Rattle.standard.specs.Bits.{unpack}
 use Rattle.laws.specs.Lists.{length_unpack}
 use Rattle.bits.specs.Fields.{field}
 use Rattle.segments.specs.Kinds.{size, base, width, char_of, group_chars, length_chars, base_pos}
-use Rattle.segments.specs.Runs.{part, part_pos, part_le, part_less}
-use Rattle.parser.specs.declared.Groups.TheVariants.{Next}
+use Rattle.segments.specs.Runs.{part, part_pos, part_less}
 use Rattle.parser.specs.Runs.{run_end, run_chars, run_end_room, run_end_short, run_end_large, run_length, no_end}
-use Rattle.parser.specs.CodeRuns.{run_fuel, part_whole}
+use Rattle.parser.specs.CodeRuns.{run_fuel, run_short, part_own, part_full, full_pos, full_cases, none_wide, left_full, left_last, left_small, turns_le}
+use Rattle.parser.specs.Filled.{filled, filled_set, filled_mid, filled_whole}
 
 -- ---- digits
 module _ (k x i : ℕ) where
@@ -58,26 +59,20 @@ get_d_chars k (suc m) x (suc j) h =
     let e : m - 1 - j ≡ suc m - 1 - suc j = omega arith in
     get_d_chars k m x j (le_of_suc-le-suc h) ∙ ap (λ (i : ℕ). char_of k (x / base k ^ i % base k)) e
 
-pub group_start : (o : List ℕ) (at k m x : ℕ) → o ≡ paste o at (group_chars k m x) 0
-group_start o at k m x = paste-zero o at (group_chars k m x)
+pub group_next : (o out : List ℕ) (k m x j d v : ℕ) → out ≡ filled o (group_chars k m x) j → d ≡ x / base k ^ (m - 1 - j) % base k → v ≡ char_of k d
+    → j < m → length o ≡ m → set out j v ≡ filled o (group_chars k m x) (j + 1)
+group_next o out k m x j d v inv ed ev h long =
+    filled_set o (group_chars k m x) out j v inv (omega arith) (omega (arith, length_chars k m x)) (ev ∙ ap (char_of k) ed ∙ sym (get_d_chars k m x j h))
 
-pub group_next : (o out : List ℕ) (at k m x j d v : ℕ) → out ≡ paste o at (group_chars k m x) j → d ≡ x / base k ^ (m - 1 - j) % base k → v ≡ char_of k d
-    → j < m → at + m ≤ length o → set out (at + j) v ≡ paste o at (group_chars k m x) (j + 1)
-group_next o out at k m x j d v inv ed ev h room =
-    let c : v ≡ get_or (group_chars k m x) j 0 = ev ∙ ap (char_of k) ed ∙ sym (get_d_chars k m x j h) in
-    ap₂ (λ (l : List ℕ) (b : ℕ). set l (at + j) b) inv c
-    ∙ paste-suc o at (group_chars k m x) j 0 (omega arith) (omega (arith, length_chars k m x))
-    ∙ ap (paste o at (group_chars k m x)) (sym (add-one j))
-
-pub paste_end : (o out s : List ℕ) (at j m : ℕ) → out ≡ paste o at s j → j ≤ m → m ≤ j → out ≡ paste o at s m
-paste_end o out s at j m inv a b = let e : j ≡ m = omega arith in inv ∙ ap (paste o at s) e
+pub group_whole : (o out : List ℕ) (k m x j : ℕ) → out ≡ filled o (group_chars k m x) j → length o ≡ m → m ≤ j → j ≤ m → out ≡ group_chars k m x
+group_whole o out k m x j inv long a b = inv ∙ filled_whole o (group_chars k m x) j (omega arith) (omega (arith, length_chars k m x))
 
 -- ---- a run that has been checked
 pub record Opened (k : ℕ) (u : List ℕ) (p n end : ℕ) : Type 0 where
   pub room : p + width k (part k n) ≤ length u
-  pub next : run_end k u (n - part k n) (p + width k (part k n)) (n - part k n) ≡ Next end
+  pub next : run_end k u (n - part k n) (p + width k (part k n)) (n - part k n) ≡ Ok end
 
-opened : (k : ℕ) (u : List ℕ) (p n end : ℕ) → run_end k u n p n ≡ Next end → 0 < n → Opened k u p n end
+opened : (k : ℕ) (u : List ℕ) (p n end : ℕ) → run_end k u n p n ≡ Ok end → 0 < n → Opened k u p n end
 opened k u p zero end e h = absurd (omega arith)
 opened k u p (suc n) end e h = room_case (leb (p + w) (length u)) refl
   where
@@ -119,109 +114,129 @@ chars_turn k u p (suc n) h =
     ap (λ (r : List ℕ). group_chars k (part k (suc n)) (field u p (width k (part k (suc n)))) ++ r)
     (chars_fuel k u n (suc n - part k (suc n)) (p + width k (part k (suc n))) (suc n - part k (suc n)) (omega (arith, part_pos k n)) (omega arith))
 
--- a group that is the whole of what is left
-pub chars_last : (k : ℕ) (buf : List ℕ) (at m w x : ℕ) → w ≡ width k m → x ≡ field (unpack buf) at w → m < size k → 0 < m
-    → group_chars k m x ≡ run_chars k (unpack buf) m at m
+-- a group of as many characters as a full one at most is the whole of a run
+pub chars_own : (k : ℕ) (u : List ℕ) (at m w x : ℕ) → w ≡ width k m → x ≡ field u at w → m ≤ size k → group_chars k m x ≡ run_chars k u m at m
+unfolding run_chars group_chars
+chars_own k u at zero w x ew ex h = refl
+chars_own k u at (suc m) w x ew ex h =
+    let n : ℕ = suc m in
+    let y : ℕ = field u at (width k n) in
+    let z : 0 ≡ n - n = omega arith in
+    ap (group_chars k n) (ex ∙ ap (field u at) ew)
+    ∙ sym (append-nil (group_chars k n y))
+    ∙ ap (λ (i : ℕ). group_chars k n y ++ run_chars k u i (at + width k n) i) z
+    ∙ ap (λ (i : ℕ). group_chars k i (field u at (width k i)) ++ run_chars k u (n - i) (at + width k i) (n - i)) (part_own k n h)
+    ∙ sym (chars_turn k u at n (omega arith))
+
+-- ---- a full group of a longer run
+
+module _ (k : ℕ) (u : List ℕ) (p n m w : ℕ) (em : m ≡ size k) (le : m ≤ n) (ew : w ≡ width k m) where
+  -- its characters, and those after it
+  pub chars_split : run_chars k u n p n ≡ run_chars k u m p m ++ run_chars k u (n - m) (p + w) (n - m)
+  chars_split =
+      let all : m ≡ part k n = part_full k n m em le in
+      let pos : 0 < n = omega (arith, full_pos k m em) in
+      chars_turn k u p n pos
+      ∙ ap (λ (i : ℕ). group_chars k i (field u p (width k i)) ++ run_chars k u (n - i) (p + width k i) (n - i)) (sym all)
+      ∙ ap₂ (λ (x : List ℕ) (i : ℕ). x ++ run_chars k u (n - m) (p + i) (n - m)) (chars_own k u p m (width k m) (field u p (width k m)) refl refl (omega arith)) (sym ew)
+
+  module _ (ok : IsOk (run_end k u n p n)) where
+    pub ok_first : IsOk (run_end k u m p m)
+    ok_first = full_cases k u p n m em le (λ a b. absurd (true≢false (sym ok ∙ ap is_ok b))) (λ r a b. ap is_ok a)
+
+    pub ok_room : p + w ≤ length u
+    ok_room = full_cases k u p n m em le (λ a b. absurd (true≢false (sym ok ∙ ap is_ok b))) (λ r a b. omega arith)
+
+    pub ok_rest : IsOk (run_end k u (n - m) (p + w) (n - m))
+    ok_rest =
+        full_cases k u p n m em le (λ a b. absurd (true≢false (sym ok ∙ ap is_ok b)))
+        (λ r a b. ap (λ (i : ℕ). is_ok (run_end k u (n - m) (p + i) (n - m))) ew ∙ sym (ap is_ok b) ∙ ok)
+
+-- a group of as many characters as a full one at most stands in the data
+pub own_room : (k : ℕ) (buf : List ℕ) (at m w : ℕ) → m ≤ size k → w ≡ width k m → at ≤ 8 * length buf → IsOk (run_end k (unpack buf) m at m) → at + w ≤ 8 * length buf
+own_room k buf at m w small ew high ok =
+    split m 1 (λ h. omega (arith, none_wide k buf at m w small ew high h))
+    (λ h.
+    split (length buf * 8) (at + w)
+    (λ s. absurd (true≢false (sym ok ∙ sym (ap is_ok (run_short k buf (run_end k (unpack buf) m at m) at m m w refl (part_own k m small) ew h s)))))
+    (λ r. omega arith))
+
+pub run_start : (k : ℕ) (u : List ℕ) (n at : ℕ) → drop 0 (run_chars k u n at n) ≡ run_chars k u (n - 0) at (n - 0)
+run_start k u n at = let z : n ≡ n - 0 = omega arith in ap (λ (j : ℕ). run_chars k u j at j) z
+
+pub run_ok : (k : ℕ) (u : List ℕ) (n at : ℕ) → IsOk (run_end k u n at n) → IsOk (run_end k u (n - 0) at (n - 0))
+run_ok k u n at ok = let z : n ≡ n - 0 = omega arith in subst (λ (j : ℕ). IsOk (run_end k u j at j)) z ok
+
+-- how long parts of a lent slice are
+pub part_long : (out : List ℕ) (q m n : ℕ) → length out ≡ n → m ≤ n - q → length (take (q + m - q) (drop q out)) ≡ m
+part_long out q m n e h = length-take (q + m - q) (drop q out) ∙ omega (arith, length-drop q out)
+
+pub rest_long : (out : List ℕ) (q n : ℕ) → length out ≡ n → length (take (length out - q) (drop q out)) ≡ n - q
+rest_long out q n e = length-take (length out - q) (drop q out) ∙ omega (arith, length-drop q out)
+
+-- ---- the loop over full groups, of which i have been written: q characters, and the others of S stand from bit p on
+module _ (k : ℕ) (buf o out new : List ℕ) (n at p q m w i : ℕ) (em : m ≡ size k) (ew : w ≡ width k m) (long : length o ≡ n)
+    (inv : out ≡ filled o (run_chars k (unpack buf) n at n) q) (left : drop q (run_chars k (unpack buf) n at n) ≡ run_chars k (unpack buf) (n - q) p (n - q))
+    (ok : IsOk (run_end k (unpack buf) (n - q) p (n - q))) (turns : q ≡ m * i) where
+  S : List ℕ
+  S = run_chars k (unpack buf) n at n
+
+  size_S : length S ≡ n
+  unfolding S
+  size_S = run_length k (unpack buf) n at n (omega arith)
+
+  module _ (less : i < n / m) where
+    pub turn_le : m ≤ n - q
+    turn_le = let h : m ≤ n - m * i = left_full k m n i em less in omega arith
+
+    pub turn_first : IsOk (run_end k (unpack buf) m p m)
+    turn_first = ok_first k (unpack buf) p (n - q) m w em turn_le ew ok
+
+    pub turn_room : p + w ≤ 8 * length buf
+    turn_room = omega (arith, ok_room k (unpack buf) p (n - q) m w em turn_le ew ok, length_unpack buf)
+
+    rest_is : n - q - m ≡ n - (q + m)
+    rest_is = omega arith
+
+    pub turn_ok : IsOk (run_end k (unpack buf) (n - (q + m)) (p + w) (n - (q + m)))
+    turn_ok = subst (λ (j : ℕ). IsOk (run_end k (unpack buf) j (p + w) j)) rest_is (ok_rest k (unpack buf) p (n - q) m w em turn_le ew ok)
+
+    turn_split : drop q (run_chars k (unpack buf) n at n) ≡ run_chars k (unpack buf) m p m ++ run_chars k (unpack buf) (n - (q + m)) (p + w) (n - (q + m))
+    turn_split = left ∙ chars_split k (unpack buf) p (n - q) m w em turn_le ew ∙ ap (λ (j : ℕ). run_chars k (unpack buf) m p m ++ run_chars k (unpack buf) j (p + w) j) rest_is
+
+    pub turn_left : drop (q + m) (run_chars k (unpack buf) n at n) ≡ run_chars k (unpack buf) (n - (q + m)) (p + w) (n - (q + m))
+    turn_left =
+        sym (drop-drop m q (run_chars k (unpack buf) n at n)) ∙ ap (drop m) turn_split
+        ∙ drop_at (run_chars k (unpack buf) m p m) (run_chars k (unpack buf) (n - (q + m)) (p + w) (n - (q + m))) m (run_length k (unpack buf) m p m (omega arith))
+
+    pub turn_filled : new ≡ run_chars k (unpack buf) m p m → put_mid q (q + m - q) out new ≡ filled o (run_chars k (unpack buf) n at n) (q + m)
+    unfolding S
+    turn_filled e =
+        filled_mid o (run_chars k (unpack buf) n at n) out new q m (q + m - q) inv (omega (arith, size_S)) (omega (arith, turn_le)) (omega arith)
+        (e ∙ sym (take_at (run_chars k (unpack buf) m p m) (run_chars k (unpack buf) (n - (q + m)) (p + w) (n - (q + m))) m (run_length k (unpack buf) m p m (omega arith))) ∙ ap (take m) (sym turn_split))
+
+    pub turn_turns : q + m ≡ m * (i + 1)
+    turn_turns = omega (arith, mul-suc m i, add-one i)
+
+  module _ (fewer : i ≤ n / m) (last : n / m ≤ i) where
+    rest_mod : n - q ≡ n % m
+    rest_mod = let h : n - m * i ≡ n % m = left_last k m n i em fewer last in omega arith
+
+    pub end_small : n - q ≤ size k
+    end_small = omega (arith, rest_mod, left_small k m n em)
+
+    end_within : q ≤ n
+    end_within = let h : m * i ≤ n = turns_le k m n i em fewer in omega arith
+
+    pub end_filled : (j : ℕ) → j ≡ n - q → new ≡ run_chars k (unpack buf) j p j → put_mid q j out new ≡ run_chars k (unpack buf) n at n
+    unfolding S
+    end_filled j ej e =
+        let long_S = size_S in
+        filled_mid o (run_chars k (unpack buf) n at n) out new q (n - q) j inv (omega arith) (omega (arith, end_within)) ej
+        (e ∙ ap (λ (x : ℕ). run_chars k (unpack buf) x p x) ej ∙ sym left ∙ sym (take_all (n - q) (drop q (run_chars k (unpack buf) n at n)) (omega (arith, length-drop q (run_chars k (unpack buf) n at n)))))
+        ∙ filled_whole o (run_chars k (unpack buf) n at n) (q + (n - q)) (omega (arith, end_within)) (omega arith)
+
+pub run_none : (k : ℕ) (u o : List ℕ) (n at : ℕ) → length o ≡ n → n ≡ 0 → o ≡ run_chars k u n at n
 unfolding run_chars
-chars_last k buf at m w x ew ex h pos =
-    let u : List ℕ = unpack buf in
-    let y : ℕ = field u at (width k m) in
-    let z : 0 ≡ m - m = omega arith in
-    ap (group_chars k m) (ex ∙ ap (field u at) ew)
-    ∙ sym (append-nil (group_chars k m y))
-    ∙ ap (λ (i : ℕ). group_chars k m y ++ run_chars k u i (at + width k m) i) z
-    ∙ ap (λ (i : ℕ). group_chars k i (field u at (width k i)) ++ run_chars k u (m - i) (at + width k i) (m - i)) (part_whole k m h)
-    ∙ sym (chars_turn k u at m pos)
-
-pub last_written : (k : ℕ) (buf : List ℕ) (at m w x : ℕ) (o new : List ℕ) (to : ℕ) → new ≡ paste o to (group_chars k m x) m → w ≡ width k m → x ≡ field (unpack buf) at w
-    → m < size k → 0 < m → new ≡ paste o to (run_chars k (unpack buf) m at m) m
-last_written k buf at m w x o new to e ew ex h pos = e ∙ ap (λ (l : List ℕ). paste o to l m) (chars_last k buf at m w x ew ex h pos)
-
--- one more part of what is written
-pub paste_more : (o s g : List ℕ) (at j m : ℕ) → at + j ≤ length o → j ≤ length s → length g ≡ m → take m (drop j s) ≡ g
-    → paste (paste o at s j) (at + j) g m ≡ paste o at s (j + m)
-paste_more o s g at j m ho hs lg e =
-    let a : take (at + j) (paste o at s j) ≡ take at o ++ take j s = take-paste o at s j (omega arith) hs in
-    let d : drop (at + j + m) (paste o at s j) ≡ drop (at + (j + m)) o
-    = sym (drop-drop m (at + j) (paste o at s j)) ∙ ap (drop m) (drop-paste o at s j (omega arith) hs) ∙ drop-drop m (at + j) o ∙ ap (λ (i : ℕ). drop i o) (sums at j m) in
-    let t : take at o ++ take j s ++ take m g ≡ take at o ++ take (j + m) s
-    = append_assoc (take at o) (take j s) (take m g)
-    ∙ ap (λ (x : List ℕ). take at o ++ (take j s ++ x)) (take_all m g (omega arith) ∙ sym e)
-    ∙ ap (λ (x : List ℕ). take at o ++ x) (sym (take-add j m s)) in
-    ap₂ (λ (x y : List ℕ). x ++ take m g ++ y) a d ∙ ap (λ (x : List ℕ). x ++ drop (at + (j + m)) o) t
-  where
-    sums : (a b c : ℕ) → a + b + c ≡ a + (b + c)
-    sums a b c = omega arith
-
-module _ (k : ℕ) (buf : List ℕ) (p n end m w : ℕ) (chk : run_end k (unpack buf) n p n ≡ Next end) (em : m ≡ part k n) (ew : w ≡ width k m) (pos : 0 < n) where
-  open_wide : w ≡ width k (part k n)
-  open_wide = ew ∙ ap (width k) em
-
-  pub open_room : p + w ≤ 8 * length buf
-  open_room =
-      subst (λ (j : ℕ). p + w ≤ j) (length_unpack buf)
-      (subst (λ (j : ℕ). p + j ≤ length (unpack buf)) (sym open_wide) (opened k (unpack buf) p n end chk pos).room)
-
-  pub open_fits : length buf ≤ 4096 → p + w < 2 ^ 64
-  open_fits h = omega (arith, open_room)
-
-  pub open_next : run_end k (unpack buf) (n - m) (p + w) (n - m) ≡ Next end
-  open_next =
-      ap₂ (λ (i j : ℕ). run_end k (unpack buf) (n - i) (p + j) (n - i)) em open_wide ∙ (opened k (unpack buf) p n end chk pos).next
-
-module _ (k : ℕ) (buf : List ℕ) (c : List ℕ) (count p n m w x : ℕ) (left : drop (count - n) c ≡ run_chars k (unpack buf) n p n) (em : m ≡ part k n) (ew : w ≡ width k m)
-    (ex : x ≡ field (unpack buf) p w) (pos : 0 < n) (le : n ≤ count) where
-  wide_of : w ≡ width k (part k n)
-  wide_of = ew ∙ ap (width k) em
-
-  more_chars : drop (count - n) c ≡ group_chars k m x ++ run_chars k (unpack buf) (n - m) (p + w) (n - m)
-  more_chars =
-      left ∙ chars_turn k (unpack buf) p n pos
-      ∙ ap₂ (λ (i j : ℕ). group_chars k i (field (unpack buf) p j) ++ run_chars k (unpack buf) (n - i) (p + j) (n - i)) (sym em) (sym wide_of)
-      ∙ ap (λ (y : ℕ). group_chars k m y ++ run_chars k (unpack buf) (n - m) (p + w) (n - m)) (sym ex)
-
-  part_count : count - (n - m) ≡ count - n + m
-  part_count = let h : part k n ≤ n = part_le k n in omega arith
-
-  pub write_left : drop (count - (n - m)) c ≡ run_chars k (unpack buf) (n - m) (p + w) (n - m)
-  write_left =
-      ap (λ (i : ℕ). drop i c) part_count ∙ sym (drop-drop m (count - n) c) ∙ ap (drop m) more_chars
-      ∙ drop_front m (group_chars k m x) (run_chars k (unpack buf) (n - m) (p + w) (n - m)) (length_chars k m x)
-    where
-      drop_front : (m : ℕ) (a b : List ℕ) → length a ≡ m → drop m (a ++ b) ≡ b
-      drop_front m a b e = drop_at a b m e
-
-  pub write_next : (o out new : List ℕ) (to q : ℕ) → out ≡ paste o to c (count - n) → new ≡ paste out q (group_chars k m x) m → q + n ≡ to + count
-      → to + count ≤ length o → length c ≡ count → new ≡ paste o to c (count - (n - m))
-  write_next o out new to q inv wrote eq room long =
-      let at : q ≡ to + (count - n) = omega arith in
-      wrote ∙ ap₂ (λ (l : List ℕ) (i : ℕ). paste l i (group_chars k m x) m) inv at
-      ∙ paste_more o c (group_chars k m x) to (count - n) m (omega arith) (omega arith) (length_chars k m x)
-      (ap (take m) more_chars ∙ take_at (group_chars k m x) (run_chars k (unpack buf) (n - m) (p + w) (n - m)) m (length_chars k m x))
-      ∙ ap (paste o to c) (sym part_count)
-
-pub write_room : (k n m q to count : ℕ) (o out : List ℕ) → m ≡ part k n → q + n ≡ to + count → to + count ≤ length o → length out ≡ length o → q + m ≤ length out
-write_room k n m q to count o out e h r l = let p : part k n ≤ n = part_le k n in omega arith
-
-pub write_start : (o s : List ℕ) (to count : ℕ) → o ≡ paste o to s (count - count)
-write_start o s to count = let z : 0 ≡ count - count = omega arith in paste-zero o to s ∙ ap (paste o to s) z
-
-pub write_all_left : (k : ℕ) (buf : List ℕ) (at count : ℕ) → drop (count - count) (run_chars k (unpack buf) count at count) ≡ run_chars k (unpack buf) count at count
-write_all_left k buf at count = let z : count - count ≡ 0 = omega arith in ap (λ (i : ℕ). drop i (run_chars k (unpack buf) count at count)) z
-
-pub write_end : (k : ℕ) (buf c o out new : List ℕ) (to q count p n : ℕ) → out ≡ paste o to c (count - n) → drop (count - n) c ≡ run_chars k (unpack buf) n p n
-    → new ≡ paste out q (run_chars k (unpack buf) n p n) n → q + n ≡ to + count → n ≤ count → to + count ≤ length o → length c ≡ count → new ≡ paste o to c count
-write_end k buf c o out new to q count p n inv left wrote eq le room long =
-    let g : List ℕ = run_chars k (unpack buf) n p n in
-    let lg : length g ≡ n = run_length k (unpack buf) n p n (omega arith) in
-    let at : q ≡ to + (count - n) = omega arith in
-    let all : count - n + n ≡ count = omega arith in
-    wrote ∙ ap₂ (λ (l : List ℕ) (i : ℕ). paste l i g n) inv at
-    ∙ paste_more o c g to (count - n) n (omega arith) (omega arith) lg (ap (take n) left ∙ take_all n g (omega arith))
-    ∙ ap (paste o to c) all
-
-pub run_count : (k : ℕ) (buf : List ℕ) (at count : ℕ) → length (run_chars k (unpack buf) count at count) ≡ count
-run_count k buf at count = run_length k (unpack buf) count at count (omega arith)
-
-pub none_written : (o s : List ℕ) (to n : ℕ) → n ≡ 0 → o ≡ paste o to s n
-none_written o s to n e = paste-zero o to s ∙ ap (paste o to s) (sym e)
+run_none k u [] n at e z = sym (ap (λ (j : ℕ). run_chars k u j at j) z)
+run_none k u (x ∷ o) n at e z = absurd (omega arith)

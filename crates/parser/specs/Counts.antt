@@ -1,20 +1,17 @@
 -- The counting pass: how many records and characters there are, or where the fault is.
 -- Assumes nothing.
-use Rattle.std.specs.Prelude.{ℕ, suc, ◌+◌, ◌-◌, ◌*◌, ◌^◌, ◌≤◌, ◌<◌, ◌≡◌, refl, List, [], ◌∷◌, length}
+use Rattle.std.specs.Prelude.{ℕ, suc, ◌+◌, ◌-◌, ◌*◌, ◌^◌, ◌≤◌, ◌<◌, ◌≡◌, refl, List, [], ◌∷◌, length, Result, Ok, Err}
 use Rattle.std.proofs.Common.{sym, ap, ap₂, ◌∙◌, subst, arith, lt_of_lt_of_le, pow_mono}
 use Rattle.standard.specs.Bits.{unpack}
 use Rattle.standard.specs.Segments.{Segment}
 use Rattle.laws.specs.Lists.{length_unpack}
 use Rattle.bits.specs.Fields.{binary_unpack}
 use Rattle.segments.specs.Fit.{count_le}
-use Rattle.parser.specs.declared.Groups.{Groups}
-use Rattle.parser.specs.declared.Groups.TheVariants.{Next, Fault as Fault-groups}
-use Rattle.parser.specs.declared.Step.{Step}
-use Rattle.parser.specs.declared.Step.TheVariants.{Found, Long, End, Fault}
-use Rattle.parser.specs.declared.Counted.{Counted}
-use Rattle.parser.specs.declared.Counted.TheVariants.{Read, Bad}
+use Rattle.parser.specs.declared.Fault.{Fault as Faulty}
+use Rattle.parser.specs.declared.Counts.{Counts}
+use Rattle.parser.specs.Faults.{Ends, fault_at}
 use Rattle.parser.specs.Runs.{run_chars}
-use Rattle.parser.specs.Steps.{step_at}
+use Rattle.parser.specs.Steps.{Step, Found, End, Fault, step_at}
 use Rattle.parser.specs.Stepped.{found, step_sound, chars_count, WroteStep}
 use Rattle.parser.specs.Tail.{tail_at}
 use Rattle.parser.specs.Parse.{Parsed, read, bad, more, ended, after, parse_from, parse_step}
@@ -25,27 +22,34 @@ abbrev pub text_length : List Segment → ℕ
 text_length [] = 0
 text_length (s ∷ ss) = length s.chars + text_length ss
 
+abbrev pub Counted : Type 0
+Counted = Result Counts Faulty
+
+-- so many records and characters
+abbrev pub count_of : ℕ → ℕ → Counted
+count_of r t = Ok (record { records = r; text = t })
+
 abbrev pub counted : Parsed → Counted
-counted (read ss) = Read (length ss) (text_length ss)
-counted (bad b) = Bad b
+counted (read ss) = count_of (length ss) (text_length ss)
+counted (bad b) = fault_at b
 
 -- with r records and t characters before
 abbrev pub plus : ℕ → ℕ → Counted → Counted
-plus r t (Read a b) = Read (r + a) (t + b)
-plus r t (Bad b) = Bad b
+plus r t (Ok c) = count_of (r + c.records) (t + c.text)
+plus r t (Err f) = Err f
 
 plus_zero : (c : Counted) → plus 0 0 c ≡ c
-plus_zero (Read a b) =
-    let x : 0 + a ≡ a = omega arith in
-    let y : 0 + b ≡ b = omega arith in
-    ap₂ (λ (i j : ℕ). Read i j) x y
-plus_zero (Bad b) = refl
+plus_zero (Ok c) =
+    let x : 0 + c.records ≡ c.records = omega arith in
+    let y : 0 + c.text ≡ c.text = omega arith in
+    ap₂ (λ (i j : ℕ). count_of i j) x y
+plus_zero (Err f) = refl
 
 plus_more : (r t n : ℕ) (s : Segment) (p : Parsed) → length s.chars ≡ n → plus r t (counted (more s p)) ≡ plus (r + 1) (t + n) (counted p)
 plus_more r t n s (read ss) e =
     let x : r + suc (length ss) ≡ r + 1 + length ss = omega arith in
     let y : t + (length s.chars + text_length ss) ≡ t + n + text_length ss = omega arith in
-    ap₂ (λ (i j : ℕ). Read i j) x y
+    ap₂ (λ (i j : ℕ). count_of i j) x y
 plus_more r t n s (bad b) e = refl
 
 -- ---- what a found segment says
@@ -78,14 +82,14 @@ module _ (v : ℕ) (buf : List ℕ) (at : ℕ) (s : Step) (k p n a e : ℕ) (is 
   found_fits r t h f l b = omega (arith, found_small)
 
 -- ---- the end
-pub end_read : (u : List ℕ) (at r t : ℕ) (g : Groups) (e : ℕ) → g ≡ tail_at u at → g ≡ Next e → Read r t ≡ plus r t (counted (ended (tail_at u at)))
+pub end_read : (u : List ℕ) (at r t : ℕ) (g : Ends) (e : ℕ) → g ≡ tail_at u at → g ≡ Ok e → count_of r t ≡ plus r t (counted (ended (tail_at u at)))
 end_read u at r t g e q h =
     let x : r ≡ r + 0 = omega arith in
     let y : t ≡ t + 0 = omega arith in
-    ap₂ (λ (i j : ℕ). Read i j) x y ∙ ap (λ (z : Groups). plus r t (counted (ended z))) (sym h ∙ q)
+    ap₂ (λ (i j : ℕ). count_of i j) x y ∙ ap (λ (z : Ends). plus r t (counted (ended z))) (sym h ∙ q)
 
-pub end_bad : (u : List ℕ) (at r t : ℕ) (g : Groups) (b : ℕ) → g ≡ tail_at u at → g ≡ Fault-groups b → Bad b ≡ plus r t (counted (ended (tail_at u at)))
-end_bad u at r t g b q h = ap (λ (z : Groups). plus r t (counted (ended z))) (sym h ∙ q)
+pub end_bad : (u : List ℕ) (at r t : ℕ) (g : Ends) (f : Faulty) → g ≡ tail_at u at → g ≡ Err f → Err f ≡ plus r t (counted (ended (tail_at u at)))
+end_bad u at r t g f q h = ap (λ (z : Ends). plus r t (counted (ended z))) (sym h ∙ q)
 
 -- ---- the loop
 module _ (v : ℕ) (buf : List ℕ) where
@@ -114,8 +118,5 @@ module _ (v : ℕ) (buf : List ℕ) where
     pub count_end : (x : Counted) → s ≡ End → x ≡ plus r t (counted (ended (tail_at (unpack buf) at))) → x ≡ A
     count_end x was q = q ∙ sym (turned End was)
 
-    pub count_bad : (b : ℕ) → s ≡ Fault b → Bad b ≡ A
+    pub count_bad : (b : ℕ) → s ≡ Fault b → fault_at b ≡ A
     count_bad b was = sym (turned (Fault b) was)
-
-    pub count_long : (b e : ℕ) → s ≡ Long b e → Bad b ≡ A
-    count_long b e was = sym (turned (Long b e) was)

@@ -1,7 +1,7 @@
 -- An ECI number, read strictly: what is written is read, and what is read was written.
 -- Assumes nothing.
 use Prim.Native.Nat.{ℕ, ◌+◌, ◌/◌, ◌%◌, ◌^◌, ◌≤◌, ◌<◌}
-use Rattle.std.specs.Prelude.{Bool, true, false, cond, ◌≡◌, refl, leb, ltb}
+use Rattle.std.specs.Prelude.{Bool, true, false, cond, ◌≡◌, refl, leb, ltb, Result, Ok}
 use Rattle.std.proofs.Common.{sym, ap₂, ◌∙◌, lt-ltb, le-ltb, le-leb, ltb-true, ltb-false, leb-true}
 use Rattle.std.proofs.Math.Path.{ap}
 use mathlib.Core.List.{List, ◌++◌, append_assoc}
@@ -11,34 +11,42 @@ use Rattle.standard.specs.Bits.{bits}
 use Rattle.standard.specs.Kinds.{eci_bits}
 use Rattle.laws.specs.Tests.{cond_true, cond_false}
 use Rattle.bits.specs.Fields.{field, Binary, field_hit, field_rest, field_room, field_split, field_lt, bits_add}
-use Rattle.parser.specs.declared.Eci.{Eci}
-use Rattle.parser.specs.declared.Eci.TheVariants.{Value, Long, Fault}
+use Rattle.parser.specs.declared.Fault.{Fault}
+use Rattle.parser.specs.declared.eci_number.Eci.{Eci}
+use Rattle.parser.specs.Faults.{fault_at}
 use Rattle.segments.specs.Eci.{small_bits, middle_bits, large_bits}
 use Rattle.parser.specs.Choices.{cond_inv}
 
 -- ---- read
 
-unfoldable pub eci_two : List ℕ → ℕ → Eci
+-- an ECI number and the bit after it, or a fault
+abbrev pub Number : Type 0
+Number = Result Eci Fault
+
+abbrev pub value : ℕ → ℕ → Number
+value n e = Ok (record { assign = n; end = e })
+
+unfoldable pub eci_two : List ℕ → ℕ → Number
 eci_two u at =
     cond (leb (at + 16) (length u))
-    (cond (ltb (field u at 16 % 16_384) 128) (Long (at + 16)) (Value (field u at 16 % 16_384) (at + 16)))
-    (Fault at)
+    (cond (ltb (field u at 16 % 16_384) 128) (fault_at at) (value (field u at 16 % 16_384) (at + 16)))
+    (fault_at at)
 
-unfoldable pub eci_three : List ℕ → ℕ → Eci
+unfoldable pub eci_three : List ℕ → ℕ → Number
 eci_three u at =
     cond (leb (at + 24) (length u))
-    (cond (ltb (field u at 24 % 2_097_152) 16_384) (Long (at + 24))
-    (cond (ltb (field u at 24 % 2_097_152) 1_000_000) (Value (field u at 24 % 2_097_152) (at + 24)) (Fault at)))
-    (Fault at)
+    (cond (ltb (field u at 24 % 2_097_152) 16_384) (fault_at at)
+    (cond (ltb (field u at 24 % 2_097_152) 1_000_000) (value (field u at 24 % 2_097_152) (at + 24)) (fault_at at)))
+    (fault_at at)
 
-unfoldable pub eci_by : List ℕ → ℕ → ℕ → Eci
+unfoldable pub eci_by : List ℕ → ℕ → ℕ → Number
 eci_by u at x =
-    cond (ltb x 128) (Value x (at + 8))
+    cond (ltb x 128) (value x (at + 8))
     (cond (ltb x 192) (eci_two u at)
-    (cond (ltb x 224) (eci_three u at) (Fault at)))
+    (cond (ltb x 224) (eci_three u at) (fault_at at)))
 
-unfoldable pub eci_at : List ℕ → ℕ → Eci
-eci_at u at = cond (leb (at + 8) (length u)) (eci_by u at (field u at 8)) (Fault at)
+unfoldable pub eci_at : List ℕ → ℕ → Number
+eci_at u at = cond (leb (at + 8) (length u)) (eci_by u at (field u at 8)) (fault_at at)
 
 -- the first eight bits of a longer field
 first_eight : (u : List ℕ) (at w v : ℕ) (r : List ℕ) → drop at u ≡ bits (8 + w) v ++ r → v / 2 ^ w < 256 → field u at 8 ≡ v / 2 ^ w
@@ -49,7 +57,7 @@ first_eight u at w v r e h =
 -- ---- what is written is read
 pub record FoundEci (u : List ℕ) (at n : ℕ) (r : List ℕ) : Type 0 where
   pub end : ℕ
-  pub ends : eci_at u at ≡ Value n end
+  pub ends : eci_at u at ≡ value n end
   pub rest : drop end u ≡ r
   pub low : at ≤ end
   pub high : end ≤ length u
@@ -63,9 +71,9 @@ module _ (u : List ℕ) (at n : ℕ) (r : List ℕ) (a : at ≤ length u) (e : d
       let is : field u at 8 ≡ n = field_hit u at 8 n r s (omega arith) in
       record {
         end = at + 8;
-        ends = cond_true _ (eci_by u at (field u at 8)) (Fault at) (le-leb (at + 8) (length u) room)
+        ends = cond_true _ (eci_by u at (field u at 8)) (fault_at at) (le-leb (at + 8) (length u) room)
             ∙ ap (eci_by u at) is
-            ∙ cond_true _ (Value n (at + 8)) (cond (ltb n 192) (eci_two u at) (cond (ltb n 224) (eci_three u at) (Fault at))) (lt-ltb n 128 h);
+            ∙ cond_true _ (value n (at + 8)) (cond (ltb n 192) (eci_two u at) (cond (ltb n 224) (eci_three u at) (fault_at at))) (lt-ltb n 128 h);
         rest = field_rest u at 8 n r s;
         low = omega arith;
         high = room;
@@ -84,12 +92,12 @@ module _ (u : List ℕ) (at n : ℕ) (r : List ℕ) (a : at ≤ length u) (e : d
       let high192 : field u at 8 < 192 = omega arith in
       record {
         end = at + 16;
-        ends = cond_true _ (eci_by u at (field u at 8)) (Fault at) (le-leb (at + 8) (length u) room8)
-            ∙ cond_false _ (Value (field u at 8) (at + 8)) (cond (ltb (field u at 8) 192) (eci_two u at) (cond (ltb (field u at 8) 224) (eci_three u at) (Fault at))) (le-ltb (field u at 8) 128 low128)
-            ∙ cond_true _ (eci_two u at) (cond (ltb (field u at 8) 224) (eci_three u at) (Fault at)) (lt-ltb (field u at 8) 192 high192)
-            ∙ cond_true _ (cond (ltb (field u at 16 % 16_384) 128) (Long (at + 16)) (Value (field u at 16 % 16_384) (at + 16))) (Fault at) (le-leb (at + 16) (length u) room)
-            ∙ cond_false _ (Long (at + 16)) (Value (field u at 16 % 16_384) (at + 16)) (le-ltb (field u at 16 % 16_384) 128 (omega arith))
-            ∙ ap (λ (k : ℕ). Value k (at + 16)) val;
+        ends = cond_true _ (eci_by u at (field u at 8)) (fault_at at) (le-leb (at + 8) (length u) room8)
+            ∙ cond_false _ (value (field u at 8) (at + 8)) (cond (ltb (field u at 8) 192) (eci_two u at) (cond (ltb (field u at 8) 224) (eci_three u at) (fault_at at))) (le-ltb (field u at 8) 128 low128)
+            ∙ cond_true _ (eci_two u at) (cond (ltb (field u at 8) 224) (eci_three u at) (fault_at at)) (lt-ltb (field u at 8) 192 high192)
+            ∙ cond_true _ (cond (ltb (field u at 16 % 16_384) 128) (fault_at at) (value (field u at 16 % 16_384) (at + 16))) (fault_at at) (le-leb (at + 16) (length u) room)
+            ∙ cond_false _ (fault_at at) (value (field u at 16 % 16_384) (at + 16)) (le-ltb (field u at 16 % 16_384) 128 (omega arith))
+            ∙ ap (λ (k : ℕ). value k (at + 16)) val;
         rest = field_rest u at 16 (32_768 + n) r s;
         low = omega arith;
         high = room;
@@ -108,14 +116,14 @@ module _ (u : List ℕ) (at n : ℕ) (r : List ℕ) (a : at ≤ length u) (e : d
       let high224 : field u at 8 < 224 = omega arith in
       record {
         end = at + 24;
-        ends = cond_true _ (eci_by u at (field u at 8)) (Fault at) (le-leb (at + 8) (length u) room8)
-            ∙ cond_false _ (Value (field u at 8) (at + 8)) (cond (ltb (field u at 8) 192) (eci_two u at) (cond (ltb (field u at 8) 224) (eci_three u at) (Fault at))) (le-ltb (field u at 8) 128 (omega arith))
-            ∙ cond_false _ (eci_two u at) (cond (ltb (field u at 8) 224) (eci_three u at) (Fault at)) (le-ltb (field u at 8) 192 low192)
-            ∙ cond_true _ (eci_three u at) (Fault at) (lt-ltb (field u at 8) 224 high224)
-            ∙ cond_true _ (cond (ltb (field u at 24 % 2_097_152) 16_384) (Long (at + 24)) (cond (ltb (field u at 24 % 2_097_152) 1_000_000) (Value (field u at 24 % 2_097_152) (at + 24)) (Fault at))) (Fault at) (le-leb (at + 24) (length u) room)
-            ∙ cond_false _ (Long (at + 24)) (cond (ltb (field u at 24 % 2_097_152) 1_000_000) (Value (field u at 24 % 2_097_152) (at + 24)) (Fault at)) (le-ltb (field u at 24 % 2_097_152) 16_384 (omega arith))
-            ∙ cond_true _ (Value (field u at 24 % 2_097_152) (at + 24)) (Fault at) (lt-ltb (field u at 24 % 2_097_152) 1_000_000 (omega arith))
-            ∙ ap (λ (k : ℕ). Value k (at + 24)) val;
+        ends = cond_true _ (eci_by u at (field u at 8)) (fault_at at) (le-leb (at + 8) (length u) room8)
+            ∙ cond_false _ (value (field u at 8) (at + 8)) (cond (ltb (field u at 8) 192) (eci_two u at) (cond (ltb (field u at 8) 224) (eci_three u at) (fault_at at))) (le-ltb (field u at 8) 128 (omega arith))
+            ∙ cond_false _ (eci_two u at) (cond (ltb (field u at 8) 224) (eci_three u at) (fault_at at)) (le-ltb (field u at 8) 192 low192)
+            ∙ cond_true _ (eci_three u at) (fault_at at) (lt-ltb (field u at 8) 224 high224)
+            ∙ cond_true _ (cond (ltb (field u at 24 % 2_097_152) 16_384) (fault_at at) (cond (ltb (field u at 24 % 2_097_152) 1_000_000) (value (field u at 24 % 2_097_152) (at + 24)) (fault_at at))) (fault_at at) (le-leb (at + 24) (length u) room)
+            ∙ cond_false _ (fault_at at) (cond (ltb (field u at 24 % 2_097_152) 1_000_000) (value (field u at 24 % 2_097_152) (at + 24)) (fault_at at)) (le-ltb (field u at 24 % 2_097_152) 16_384 (omega arith))
+            ∙ cond_true _ (value (field u at 24 % 2_097_152) (at + 24)) (fault_at at) (lt-ltb (field u at 24 % 2_097_152) 1_000_000 (omega arith))
+            ∙ ap (λ (k : ℕ). value k (at + 24)) val;
         rest = field_rest u at 24 (12_582_912 + n) r s;
         low = omega arith;
         high = room;
@@ -139,20 +147,20 @@ pub record WroteEci (u : List ℕ) (at n end : ℕ) : Type 0 where
   pub low : at ≤ end
   pub high : end ≤ length u
 
-same_number : (a b m n : ℕ) → ◌≡◌ {A = Eci} (Value a m) (Value b n) → a ≡ b
-same_number a b m n e = cc
+same_eci : (x y : Eci) → ◌≡◌ {A = Number} (Ok x) (Ok y) → x ≡ y
+same_eci x y e = cc
 
-same_next : (a b m n : ℕ) → ◌≡◌ {A = Eci} (Value a m) (Value b n) → m ≡ n
-same_next a b m n e = cc
+same_number : (a b m n : ℕ) → ◌≡◌ {A = Number} (value a m) (value b n) → a ≡ b
+same_number a b m n e = ap (λ (x : Eci). x.assign) (same_eci (record { assign = a; end = m }) (record { assign = b; end = n }) e)
 
-no_value : {A : Type 0} (a b n : ℕ) → ◌≡◌ {A = Eci} (Fault a) (Value b n) → A
+same_next : (a b m n : ℕ) → ◌≡◌ {A = Number} (value a m) (value b n) → m ≡ n
+same_next a b m n e = ap (λ (x : Eci). x.end) (same_eci (record { assign = a; end = m }) (record { assign = b; end = n }) e)
+
+no_value : {A : Type 0} (a b n : ℕ) → ◌≡◌ {A = Number} (fault_at a) (value b n) → A
 no_value a b n e = let z : ◌≡◌ {A = ℕ} 0 1 = cc in absurd (omega arith)
 
-no_long : {A : Type 0} (a b n : ℕ) → ◌≡◌ {A = Eci} (Long a) (Value b n) → A
-no_long a b n e = let z : ◌≡◌ {A = ℕ} 0 1 = cc in absurd (omega arith)
-
 module _ (u : List ℕ) (at n end : ℕ) (b : Binary u) where
-  sound_small : at + 8 ≤ length u → field u at 8 < 128 → ◌≡◌ {A = Eci} (Value (field u at 8) (at + 8)) (Value n end) → WroteEci u at n end
+  sound_small : at + 8 ≤ length u → field u at 8 < 128 → ◌≡◌ {A = Number} (value (field u at 8) (at + 8)) (value n end) → WroteEci u at n end
   sound_small room h e =
       let p : field u at 8 ≡ n = same_number (field u at 8) n (at + 8) end e in
       let q : at + 8 ≡ end = same_next (field u at 8) n (at + 8) end e in
@@ -166,7 +174,7 @@ module _ (u : List ℕ) (at n end : ℕ) (b : Binary u) where
       }
 
   sound_middle : at + 16 ≤ length u → 128 ≤ field u at 8 → field u at 8 < 192 → 128 ≤ field u at 16 % 16_384
-      → ◌≡◌ {A = Eci} (Value (field u at 16 % 16_384) (at + 16)) (Value n end) → WroteEci u at n end
+      → ◌≡◌ {A = Number} (value (field u at 16 % 16_384) (at + 16)) (value n end) → WroteEci u at n end
   sound_middle room l h s e =
       let p : field u at 16 % 16_384 ≡ n = same_number (field u at 16 % 16_384) n (at + 16) end e in
       let q : at + 16 ≡ end = same_next (field u at 16 % 16_384) n (at + 16) end e in
@@ -185,7 +193,7 @@ module _ (u : List ℕ) (at n end : ℕ) (b : Binary u) where
       }
 
   sound_large : at + 24 ≤ length u → 192 ≤ field u at 8 → field u at 8 < 224 → 16_384 ≤ field u at 24 % 2_097_152 → field u at 24 % 2_097_152 < 1_000_000
-      → ◌≡◌ {A = Eci} (Value (field u at 24 % 2_097_152) (at + 24)) (Value n end) → WroteEci u at n end
+      → ◌≡◌ {A = Number} (value (field u at 24 % 2_097_152) (at + 24)) (value n end) → WroteEci u at n end
   sound_large room l t s h e =
       let split : drop at u ≡ bits 24 (field u at 24) ++ drop (at + 24) u = field_split u at 24 b room in
       let top : field u at 24 < 16_777_216 = field_lt u at 24 b room in
@@ -202,34 +210,34 @@ module _ (u : List ℕ) (at n end : ℕ) (b : Binary u) where
         high = omega arith;
       }
 
-  pub eci_sound : eci_at u at ≡ Value n end → WroteEci u at n end
+  pub eci_sound : eci_at u at ≡ value n end → WroteEci u at n end
   unfolding eci_at eci_by eci_two eci_three
   eci_sound e =
       let x : ℕ = field u at 8 in
       let y : ℕ = field u at 16 % 16_384 in
       let z : ℕ = field u at 24 % 2_097_152 in
-      cond_inv (leb (at + 8) (length u)) (eci_by u at x) (Fault at) (Value n end) e
+      cond_inv (leb (at + 8) (length u)) (eci_by u at x) (fault_at at) (value n end) e
       (λ room e.
-      cond_inv (ltb x 128) (Value x (at + 8)) (cond (ltb x 192) (eci_two u at) (cond (ltb x 224) (eci_three u at) (Fault at))) (Value n end) e
+      cond_inv (ltb x 128) (value x (at + 8)) (cond (ltb x 192) (eci_two u at) (cond (ltb x 224) (eci_three u at) (fault_at at))) (value n end) e
       (λ h e. sound_small (leb-true (at + 8) (length u) room) (ltb-true x 128 h) e)
       (λ l e.
-      cond_inv (ltb x 192) (eci_two u at) (cond (ltb x 224) (eci_three u at) (Fault at)) (Value n end) e
+      cond_inv (ltb x 192) (eci_two u at) (cond (ltb x 224) (eci_three u at) (fault_at at)) (value n end) e
       (λ h e.
-      cond_inv (leb (at + 16) (length u)) (cond (ltb y 128) (Long (at + 16)) (Value y (at + 16))) (Fault at) (Value n end) e
+      cond_inv (leb (at + 16) (length u)) (cond (ltb y 128) (fault_at at) (value y (at + 16))) (fault_at at) (value n end) e
       (λ room e.
-      cond_inv (ltb y 128) (Long (at + 16)) (Value y (at + 16)) (Value n end) e
-      (λ _ e. no_long (at + 16) n end e)
+      cond_inv (ltb y 128) (fault_at at) (value y (at + 16)) (value n end) e
+      (λ _ e. no_value at n end e)
       (λ s e. sound_middle (leb-true (at + 16) (length u) room) (ltb-false x 128 l) (ltb-true x 192 h) (ltb-false y 128 s) e))
       (λ _ e. no_value at n end e))
       (λ l e.
-      cond_inv (ltb x 224) (eci_three u at) (Fault at) (Value n end) e
+      cond_inv (ltb x 224) (eci_three u at) (fault_at at) (value n end) e
       (λ h e.
-      cond_inv (leb (at + 24) (length u)) (cond (ltb z 16_384) (Long (at + 24)) (cond (ltb z 1_000_000) (Value z (at + 24)) (Fault at))) (Fault at) (Value n end) e
+      cond_inv (leb (at + 24) (length u)) (cond (ltb z 16_384) (fault_at at) (cond (ltb z 1_000_000) (value z (at + 24)) (fault_at at))) (fault_at at) (value n end) e
       (λ room e.
-      cond_inv (ltb z 16_384) (Long (at + 24)) (cond (ltb z 1_000_000) (Value z (at + 24)) (Fault at)) (Value n end) e
-      (λ _ e. no_long (at + 24) n end e)
+      cond_inv (ltb z 16_384) (fault_at at) (cond (ltb z 1_000_000) (value z (at + 24)) (fault_at at)) (value n end) e
+      (λ _ e. no_value at n end e)
       (λ s e.
-      cond_inv (ltb z 1_000_000) (Value z (at + 24)) (Fault at) (Value n end) e
+      cond_inv (ltb z 1_000_000) (value z (at + 24)) (fault_at at) (value n end) e
       (λ t e. sound_large (leb-true (at + 24) (length u) room) (ltb-false x 192 l) (ltb-true x 224 h) (ltb-false z 16_384 s) (ltb-true z 1_000_000 t) e)
       (λ _ e. no_value at n end e)))
       (λ _ e. no_value at n end e))

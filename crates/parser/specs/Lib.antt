@@ -1,3 +1,4 @@
+pub mod Faults
 pub mod Choices
 pub mod Good
 pub mod Eci
@@ -14,6 +15,7 @@ pub mod CodeSteps
 pub mod CodeTail
 pub mod Counts
 pub mod Answers
+pub mod Filled
 pub mod CodeWrites
 pub mod ByteRuns
 pub mod Parts

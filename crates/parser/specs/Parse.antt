@@ -1,7 +1,7 @@
 -- All segments of a list of bits, and what follows them: what is written is read, and what is read was written.
 -- Assumes nothing.
 use Prim.Native.Nat.{ℕ, zero, suc, ◌+◌, ◌-◌, ◌*◌, ◌^◌, ◌≤◌, ◌<◌}
-use Rattle.std.specs.Prelude.{Bool, true, false, cond, ◌≡◌, T, leb, drop}
+use Rattle.std.specs.Prelude.{Bool, true, false, cond, ◌≡◌, T, leb, drop, Ok, Err}
 use Rattle.std.proofs.Math.Path.{refl, sym, ap, subst}
 use Rattle.std.proofs.Common.{ap₂, ◌∙◌, ltb→lt, lt→ltb, pow_pos, leb-true, length-drop}
 use mathlib.Core.List.{List, [], ◌∷◌, ◌++◌, append_assoc}
@@ -16,11 +16,8 @@ use Rattle.laws.specs.Tests.{and_left, and_right, and_pair}
 use Rattle.bits.specs.Fields.{field, Binary, field_hit}
 use Rattle.segments.specs.Payload.{segment}
 use Rattle.segments.specs.Ends.{end_width}
-use Rattle.parser.specs.declared.Groups.{Groups}
-use Rattle.parser.specs.declared.Groups.TheVariants.{Next, Fault as Fault-groups}
-use Rattle.parser.specs.declared.Step.{Step}
-use Rattle.parser.specs.declared.Step.TheVariants.{Found, Long, End, Fault}
-use Rattle.parser.specs.Steps.{step_by, step_at, step_complete, FoundStep}
+use Rattle.parser.specs.Faults.{Ends}
+use Rattle.parser.specs.Steps.{Step, Found, End, Fault, step_by, step_at, step_complete, FoundStep}
 use Rattle.parser.specs.Stepped.{found, step_sound, WroteStep}
 use Rattle.parser.specs.Tail.{fill_bits, tail_bits, tail_at, tail_complete, tail_sound}
 
@@ -33,9 +30,9 @@ abbrev pub more : Segment → Parsed → Parsed
 more s (read ss) = read (s ∷ ss)
 more s (bad b) = bad b
 
-abbrev pub ended : Groups → Parsed
-ended (Next e) = read []
-ended (Fault-groups b) = bad b
+abbrev pub ended : Ends → Parsed
+ended (Ok e) = read []
+ended (Err f) = bad f.bit
 
 -- f bounds the count of segments
 unfoldable pub parse_from : ℕ → List ℕ → ℕ → ℕ → Parsed
@@ -43,14 +40,12 @@ parse_from v u zero at = bad at
 parse_from v u (suc f) at =
     elim (step_at v u at) [
       | Found k p n a e ↦ more (found u k p n a) (parse_from v u f e)
-      | Long b e ↦ bad b
       | End ↦ ended (tail_at u at)
       | Fault b ↦ bad b
     ]
 
 abbrev pub after : ℕ → List ℕ → ℕ → ℕ → Step → Parsed
 after v u f at (Found k p n a e) = more (found u k p n a) (parse_from v u f e)
-after v u f at (Long b e) = bad b
 after v u f at End = ended (tail_at u at)
 after v u f at (Fault b) = bad b
 
@@ -58,9 +53,8 @@ pub parse_step : (v : ℕ) (u : List ℕ) (f at : ℕ) (s : Step) → step_at v 
 unfolding parse_from
 parse_step v u f at s e = split (step_at v u at) ∙ ap (after v u f at) e
   where
-    split : (t : Step) → elim t as (λ _. Parsed) [ Found k p n a e ↦ more (found u k p n a) (parse_from v u f e) | Long b e ↦ bad b | End ↦ ended (tail_at u at) | Fault b ↦ bad b ] ≡ after v u f at t
+    split : (t : Step) → elim t as (λ _. Parsed) [ Found k p n a e ↦ more (found u k p n a) (parse_from v u f e) | End ↦ ended (tail_at u at) | Fault b ↦ bad b ] ≡ after v u f at t
     split (Found k p n a e) = refl
-    split (Long b e) = refl
     split End = refl
     split (Fault b) = refl
 
@@ -92,7 +86,7 @@ parse_complete v u [] zero at g l h a e = absurd (omega arith)
 parse_complete v u [] (suc f) at g l h a e =
     let z : at + 0 ≡ at = omega arith in
     let t : drop at u ≡ tail_bits (length u) at = e ∙ ap (tail_bits (length u)) z in
-    let done : (end : ℕ) × (tail_at u at ≡ Next end) = tail_complete u at a t in
+    let done : (end : ℕ) × (tail_at u at ≡ Ok end) = tail_complete u at a t in
     parse_step v u f at End (step_end v u at t) ∙ ap ended done.1
 parse_complete v u (s ∷ ss) zero at g l h a e = absurd (omega arith)
 parse_complete v u (s ∷ ss) (suc f) at g l h a e =
@@ -125,14 +119,14 @@ not_bad : {A : Type 0} (b : ℕ) (ss : List Segment) → ◌≡◌ {A = Parsed} 
 not_bad b ss e = let z : ◌≡◌ {A = ℕ} 0 1 = cc in absurd (omega arith)
 
 module _ (v : ℕ) (u : List ℕ) (q : ℕ) (b : Binary u) (l : length u ≡ 8 * q) where
-  wrote_end : (at : ℕ) (ss : List Segment) (g : Groups) → at ≤ length u → tail_at u at ≡ g → ended g ≡ read ss → Wrote v u at ss
+  wrote_end : (at : ℕ) (ss : List Segment) (g : Ends) → at ≤ length u → tail_at u at ≡ g → ended g ≡ read ss → Wrote v u at ss
   unfolding stream lengths_fit
-  wrote_end at ss (Next e) a t r =
+  wrote_end at ss (Ok e) a t r =
       let z : at ≡ at + 0 = omega arith in
       let none : Wrote v u at []
       = record { goods = tt; short = tt; bits = tail_sound u q at e b l a t ∙ ap (tail_bits (length u)) z; high = omega arith } in
       subst (Wrote v u at) (same_list [] ss r) none
-  wrote_end at ss (Fault-groups x) a t r = not_bad x ss r
+  wrote_end at ss (Err f) a t r = not_bad f.bit ss r
 
   wrote_more : (at end : ℕ) (s : Segment) (ss : List Segment) → WroteStep v u at s end → Wrote v u end ss → Wrote v u at (s ∷ ss)
   unfolding stream lengths_fit
@@ -161,7 +155,6 @@ module _ (v : ℕ) (u : List ℕ) (q : ℕ) (b : Binary u) (l : length u ≡ 8 *
   wrote_step f at ss (Found k p n a e) h q ih r =
       let w : WroteStep v u at (found u k p n a) e = step_sound v u at k p n a e b q in
       wrote_after at e (found u k p n a) ss (parse_from v u f e) w (λ rest t. ih e rest w.high t) r
-  wrote_step f at ss (Long x e) h q ih r = not_bad x ss r
   wrote_step f at ss End h q ih r = wrote_end at ss (tail_at u at) h refl r
   wrote_step f at ss (Fault x) h q ih r = not_bad x ss r
 

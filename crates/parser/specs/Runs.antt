@@ -1,6 +1,6 @@
 -- A run of characters, checked and read group after group: what is written is read, and what is read was written.
 -- Assumes nothing.
-use Rattle.std.specs.Prelude.{ℕ, zero, suc, ◌+◌, ◌-◌, ◌^◌, ◌≤◌, ◌<◌, Bool, true, false, ◌≡◌, refl, List, [], ◌∷◌, ◌++◌, T, leb, ltb, length, take, drop}
+use Rattle.std.specs.Prelude.{ℕ, zero, suc, ◌+◌, ◌-◌, ◌^◌, ◌≤◌, ◌<◌, Bool, true, false, ◌≡◌, refl, List, [], ◌∷◌, ◌++◌, T, leb, ltb, length, take, drop, Ok}
 use Rattle.std.proofs.Common.{sym, ap, ap₂, ◌∙◌, subst, append_assoc, arith, lt_of_lt_of_le, mod-eq_of_lt, lt-ltb, le-leb, ltb-true, leb-true, length-append, length-drop, take-append-drop, take_at, drop_at, length-take-le}
 use Rattle.standard.specs.Numbers.{every}
 use Rattle.standard.specs.Bits.{bits}
@@ -9,20 +9,19 @@ use Rattle.laws.specs.Lists.{every_append}
 use Rattle.bits.specs.Fields.{field, Binary, field_hit, field_rest, field_room, field_split}
 use Rattle.segments.specs.Kinds.{base, width, limit, group_number, group_chars, length_chars, good_chars, number_chars, chars_number, number_small, every_take, every_drop}
 use Rattle.segments.specs.Runs.{part, part_le, part_size, part_less, run_bits}
-use Rattle.parser.specs.declared.Groups.{Groups}
-use Rattle.parser.specs.declared.Groups.TheVariants.{Next, Fault}
+use Rattle.parser.specs.Faults.{Ends, fault_at}
 
 -- the bit after n characters that stand at a bit, or the bit at which the first group begins that is cut short or too large
-unfoldable pub run_end : ℕ → List ℕ → ℕ → ℕ → ℕ → Groups
-run_end k u zero at n = Next at
-run_end k u (suc f) at zero = Next at
+unfoldable pub run_end : ℕ → List ℕ → ℕ → ℕ → ℕ → Ends
+run_end k u zero at n = Ok at
+run_end k u (suc f) at zero = Ok at
 run_end k u (suc f) at (suc n) =
     elim (leb (at + width k (part k (suc n))) (length u)) [
       | true ↦ elim (ltb (field u at (width k (part k (suc n)))) (base k ^ part k (suc n))) [
         | true ↦ run_end k u f (at + width k (part k (suc n))) (suc n - part k (suc n))
-        | false ↦ Fault at
+        | false ↦ fault_at at
       ]
-      | false ↦ Fault at
+      | false ↦ fault_at at
     ]
 
 -- the characters
@@ -39,27 +38,27 @@ pub run_end_room : (k : ℕ) (u : List ℕ) (f at n : ℕ) → leb (at + width k
     → run_end k u (suc f) at (suc n) ≡ run_end k u f (at + width k (part k (suc n))) (suc n - part k (suc n))
 unfolding run_end
 run_end_room k u f at n a b =
-    ap (λ (t : Bool). elim t as (λ _. Groups) [ true ↦ elim (ltb (field u at (width k (part k (suc n)))) (base k ^ part k (suc n))) as (λ _. Groups) [ true ↦ run_end k u f (at + width k (part k (suc n))) (suc n - part k (suc n)) | false ↦ Fault at ] | false ↦ Fault at ]) a
-    ∙ ap (λ (t : Bool). elim t as (λ _. Groups) [ true ↦ run_end k u f (at + width k (part k (suc n))) (suc n - part k (suc n)) | false ↦ Fault at ]) b
+    ap (λ (t : Bool). elim t as (λ _. Ends) [ true ↦ elim (ltb (field u at (width k (part k (suc n)))) (base k ^ part k (suc n))) as (λ _. Ends) [ true ↦ run_end k u f (at + width k (part k (suc n))) (suc n - part k (suc n)) | false ↦ fault_at at ] | false ↦ fault_at at ]) a
+    ∙ ap (λ (t : Bool). elim t as (λ _. Ends) [ true ↦ run_end k u f (at + width k (part k (suc n))) (suc n - part k (suc n)) | false ↦ fault_at at ]) b
 
 pub run_end_short : (k : ℕ) (u : List ℕ) (f at n : ℕ) → leb (at + width k (part k (suc n))) (length u) ≡ false
-    → run_end k u (suc f) at (suc n) ≡ Fault at
+    → run_end k u (suc f) at (suc n) ≡ fault_at at
 unfolding run_end
 run_end_short k u f at n a =
-    ap (λ (t : Bool). elim t as (λ _. Groups) [ true ↦ elim (ltb (field u at (width k (part k (suc n)))) (base k ^ part k (suc n))) as (λ _. Groups) [ true ↦ run_end k u f (at + width k (part k (suc n))) (suc n - part k (suc n)) | false ↦ Fault at ] | false ↦ Fault at ]) a
+    ap (λ (t : Bool). elim t as (λ _. Ends) [ true ↦ elim (ltb (field u at (width k (part k (suc n)))) (base k ^ part k (suc n))) as (λ _. Ends) [ true ↦ run_end k u f (at + width k (part k (suc n))) (suc n - part k (suc n)) | false ↦ fault_at at ] | false ↦ fault_at at ]) a
 
 pub run_end_large : (k : ℕ) (u : List ℕ) (f at n : ℕ) → leb (at + width k (part k (suc n))) (length u) ≡ true
     → ltb (field u at (width k (part k (suc n)))) (base k ^ part k (suc n)) ≡ false
-    → run_end k u (suc f) at (suc n) ≡ Fault at
+    → run_end k u (suc f) at (suc n) ≡ fault_at at
 unfolding run_end
 run_end_large k u f at n a b =
-    ap (λ (t : Bool). elim t as (λ _. Groups) [ true ↦ elim (ltb (field u at (width k (part k (suc n)))) (base k ^ part k (suc n))) as (λ _. Groups) [ true ↦ run_end k u f (at + width k (part k (suc n))) (suc n - part k (suc n)) | false ↦ Fault at ] | false ↦ Fault at ]) a
-    ∙ ap (λ (t : Bool). elim t as (λ _. Groups) [ true ↦ run_end k u f (at + width k (part k (suc n))) (suc n - part k (suc n)) | false ↦ Fault at ]) b
+    ap (λ (t : Bool). elim t as (λ _. Ends) [ true ↦ elim (ltb (field u at (width k (part k (suc n)))) (base k ^ part k (suc n))) as (λ _. Ends) [ true ↦ run_end k u f (at + width k (part k (suc n))) (suc n - part k (suc n)) | false ↦ fault_at at ] | false ↦ fault_at at ]) a
+    ∙ ap (λ (t : Bool). elim t as (λ _. Ends) [ true ↦ run_end k u f (at + width k (part k (suc n))) (suc n - part k (suc n)) | false ↦ fault_at at ]) b
 
 -- ---- what is written is read
 pub record Found (k : ℕ) (u : List ℕ) (f at n : ℕ) (cs r : List ℕ) : Type 0 where
   pub end : ℕ
-  pub ends : run_end k u f at n ≡ Next end
+  pub ends : run_end k u f at n ≡ Ok end
   pub chars : run_chars k u f at n ≡ cs
   pub rest : drop end u ≡ r
   pub low : at ≤ end
@@ -110,13 +109,13 @@ pub record Wrote (k : ℕ) (u : List ℕ) (f at n end : ℕ) : Type 0 where
   pub low : at ≤ end
   pub high : end ≤ length u
 
-same_end : (a b : ℕ) → ◌≡◌ {A = Groups} (Next a) (Next b) → a ≡ b
+same_end : (a b : ℕ) → ◌≡◌ {A = Ends} (Ok a) (Ok b) → a ≡ b
 same_end a b e = cc
 
-pub no_end : {A : Type 0} (a b : ℕ) → ◌≡◌ {A = Groups} (Fault a) (Next b) → A
+pub no_end : {A : Type 0} (a b : ℕ) → ◌≡◌ {A = Ends} (fault_at a) (Ok b) → A
 no_end a b e = let z : ◌≡◌ {A = ℕ} 0 1 = cc in absurd (omega arith)
 
-pub run_sound : (k : ℕ) (u : List ℕ) (f at n end : ℕ) → k < 3 → Binary u → n ≤ f → at ≤ length u → run_end k u f at n ≡ Next end → Wrote k u f at n end
+pub run_sound : (k : ℕ) (u : List ℕ) (f at n end : ℕ) → k < 3 → Binary u → n ≤ f → at ≤ length u → run_end k u f at n ≡ Ok end → Wrote k u f at n end
 unfolding run_bits run_end run_chars
 run_sound k u zero at n end lk b h a e =
     let q : at ≡ end = same_end at end e in
@@ -158,18 +157,18 @@ run_sound k u (suc f) at (suc n) end lk b h a e =
         }
 
     limit_case : (t : Bool) → ltb x (base k ^ m) ≡ t → at + w ≤ length u
-        → (run_end k u f (at + w) (suc n - m) ≡ Next end → Wrote k u f (at + w) (suc n - m) end)
-        → elim t [ true ↦ run_end k u f (at + w) (suc n - m) | false ↦ Fault at ] ≡ Next end
+        → (run_end k u f (at + w) (suc n - m) ≡ Ok end → Wrote k u f (at + w) (suc n - m) end)
+        → ◌≡◌ {A = Ends} (elim t [ true ↦ run_end k u f (at + w) (suc n - m) | false ↦ fault_at at ]) (Ok end)
         → Wrote k u (suc f) at (suc n) end
     limit_case true q room ih e = build room (ltb-true x (base k ^ m) q) (ih e)
     limit_case false q room ih e = no_end at end e
 
     room_case : (t : Bool) → leb (at + w) (length u) ≡ t
-        → (leb (at + w) (length u) ≡ true → run_end k u f (at + w) (suc n - m) ≡ Next end → Wrote k u f (at + w) (suc n - m) end)
-        → elim t [
-          | true ↦ elim (ltb x (base k ^ m)) [ true ↦ run_end k u f (at + w) (suc n - m) | false ↦ Fault at ]
-          | false ↦ Fault at
-        ] ≡ Next end
+        → (leb (at + w) (length u) ≡ true → run_end k u f (at + w) (suc n - m) ≡ Ok end → Wrote k u f (at + w) (suc n - m) end)
+        → ◌≡◌ {A = Ends} (elim t [
+          | true ↦ elim (ltb x (base k ^ m)) [ true ↦ run_end k u f (at + w) (suc n - m) | false ↦ fault_at at ]
+          | false ↦ fault_at at
+        ]) (Ok end)
         → Wrote k u (suc f) at (suc n) end
     room_case true q ih e = limit_case (ltb x (base k ^ m)) refl (leb-true (at + w) (length u) q) (ih q) e
     room_case false q ih e = no_end at end e

@@ -1,7 +1,7 @@
 -- One segment: what is read was written.
 -- Assumes nothing.
 use Prim.Native.Nat.{ℕ, ◌+◌, ◌^◌, ◌≤◌, ◌<◌}
-use Rattle.std.specs.Prelude.{cond, ◌≡◌, T, leb, eqb, drop}
+use Rattle.std.specs.Prelude.{cond, ◌≡◌, T, leb, eqb, drop, Ok, Err}
 use Rattle.std.proofs.Math.Path.{refl, sym, ap₂, subst}
 use Rattle.std.proofs.Common.{ap, ◌∙◌, arith, leb-true, eqb-true}
 use mathlib.Core.List.{List, ◌++◌}
@@ -13,17 +13,12 @@ use Rattle.standard.specs.Segments.{Segment, good_segment, segment_bits}
 use Rattle.bits.specs.Fields.{field, Binary, field_split, field_lt}
 use Rattle.segments.specs.Runs.{run_bits}
 use Rattle.segments.specs.Payload.{segment}
-use Rattle.parser.specs.declared.Groups.{Groups}
-use Rattle.parser.specs.declared.Groups.TheVariants.{Next, Fault as Fault-groups}
-use Rattle.parser.specs.declared.Eci.{Eci}
-use Rattle.parser.specs.declared.Eci.TheVariants.{Value, Long as Long-eci, Fault as Fault-eci}
-use Rattle.parser.specs.declared.Step.{Step}
-use Rattle.parser.specs.declared.Step.TheVariants.{Found, Long, End, Fault}
+use Rattle.parser.specs.Faults.{Ends}
 use Rattle.parser.specs.Choices.{cond_inv}
 use Rattle.parser.specs.Good.{good_text, good_eci}
 use Rattle.parser.specs.Runs.{run_end, run_chars, run_sound, run_length, Wrote}
-use Rattle.parser.specs.Eci.{eci_at, eci_sound, WroteEci}
-use Rattle.parser.specs.Steps.{from_run, from_eci, run_step, text_step, step_by, step_at, text_bits, eci_bits_lem}
+use Rattle.parser.specs.Eci.{Number, value, eci_at, eci_sound, WroteEci}
+use Rattle.parser.specs.Steps.{Step, Found, End, Fault, from_run, from_eci, run_step, text_step, step_by, step_at, text_bits, eci_bits_lem}
 
 pub record WroteStep (v : ℕ) (u : List ℕ) (at : ℕ) (s : Segment) (end : ℕ) : Type 0 where
   pub good : T (good_segment s)
@@ -34,9 +29,6 @@ pub record WroteStep (v : ℕ) (u : List ℕ) (at : ℕ) (s : Segment) (end : �
 
 no_found : {A : Type 0} (b k p n a e : ℕ) → ◌≡◌ {A = Step} (Fault b) (Found k p n a e) → A
 no_found b k p n a e q = let z : ◌≡◌ {A = ℕ} 0 1 = cc in absurd (omega arith)
-
-no_found_long : {A : Type 0} (b c k p n a e : ℕ) → ◌≡◌ {A = Step} (Long b c) (Found k p n a e) → A
-no_found_long b c k p n a e q = let z : ◌≡◌ {A = ℕ} 0 1 = cc in absurd (omega arith)
 
 no_found_end : {A : Type 0} (b k p n a e : ℕ) → ◌≡◌ {A = Step} End (Found k p n a e) → A
 no_found_end b k p n a e q = let z : ◌≡◌ {A = ℕ} 0 1 = cc in absurd (omega arith)
@@ -58,12 +50,12 @@ found u k p n a = segment k (run_chars k u n p n) a
 -- what a step that found a segment says
 pub record Stepped (v : ℕ) (u : List ℕ) (at k p n a end : ℕ) : Type 0 where
   pub wrote : WroteStep v u at (found u k p n a) end
-  pub run : k < 3 → run_end k u n p n ≡ Next end
+  pub run : k < 3 → run_end k u n p n ≡ Ok end
   pub place : p ≤ length u
 
 module _ (v : ℕ) (u : List ℕ) (at : ℕ) (b : Binary u) (room : at + 4 ≤ length u) where
   text_wrote : (j end : ℕ) → j < 3 → field u at 4 ≡ mode_bits j → at + 4 + count_width v j ≤ length u
-      → run_end j u (field u (at + 4) (count_width v j)) (at + 4 + count_width v j) (field u (at + 4) (count_width v j)) ≡ Next end
+      → run_end j u (field u (at + 4) (count_width v j)) (at + 4 + count_width v j) (field u (at + 4) (count_width v j)) ≡ Ok end
       → WroteStep v u at (found u j (at + 4 + count_width v j) (field u (at + 4) (count_width v j)) 0) end
   text_wrote j end h mode room2 e =
       let w : ℕ = count_width v j in
@@ -92,9 +84,9 @@ module _ (v : ℕ) (u : List ℕ) (at : ℕ) (b : Binary u) (room : at + 4 ≤ l
       (λ r2 e. by_run (leb-true (at + 4 + w) (length u) r2) (run_end j u (field u (at + 4) w) (at + 4 + w) (field u (at + 4) w)) refl e)
       (λ _ e. no_found (at + 4) k p n a end e)
     where
-      by_run : at + 4 + count_width v j ≤ length u → (g : Groups) → run_end j u (field u (at + 4) (count_width v j)) (at + 4 + count_width v j) (field u (at + 4) (count_width v j)) ≡ g
+      by_run : at + 4 + count_width v j ≤ length u → (g : Ends) → run_end j u (field u (at + 4) (count_width v j)) (at + 4 + count_width v j) (field u (at + 4) (count_width v j)) ≡ g
           → from_run j (at + 4 + count_width v j) (field u (at + 4) (count_width v j)) g ≡ Found k p n a end → Stepped v u at k p n a end
-      by_run r2 (Next e) q s =
+      by_run r2 (Ok e) q s =
           let t : Same j (at + 4 + count_width v j) (field u (at + 4) (count_width v j)) 0 e k p n a end = same_found j (at + 4 + count_width v j) (field u (at + 4) (count_width v j)) 0 e k p n a end s in
           let w1 : Stepped v u at j (at + 4 + count_width v j) (field u (at + 4) (count_width v j)) 0 e = record { wrote = text_wrote j e h mode r2 q; run = λ _. q; place = r2 } in
           let w2 : Stepped v u at k (at + 4 + count_width v j) (field u (at + 4) (count_width v j)) 0 e = subst (λ (i : ℕ). Stepped v u at i (at + 4 + count_width v j) (field u (at + 4) (count_width v j)) 0 e) t.kind w1 in
@@ -102,9 +94,9 @@ module _ (v : ℕ) (u : List ℕ) (at : ℕ) (b : Binary u) (room : at + 4 ≤ l
           let w4 : Stepped v u at k p n 0 e = subst (λ (i : ℕ). Stepped v u at k p i 0 e) t.count w3 in
           let w5 : Stepped v u at k p n a e = subst (λ (i : ℕ). Stepped v u at k p n i e) t.assign w4 in
           subst (λ (i : ℕ). Stepped v u at k p n a i) t.end w5
-      by_run r2 (Fault-groups x) q s = no_found x k p n a end s
+      by_run r2 (Err f) q s = no_found f.bit k p n a end s
 
-  eci_wrote : (n end : ℕ) → field u at 4 ≡ 7 → eci_at u (at + 4) ≡ Value n end → WroteStep v u at (found u 3 (at + 4) 0 n) end
+  eci_wrote : (n end : ℕ) → field u at 4 ≡ 7 → eci_at u (at + 4) ≡ value n end → WroteStep v u at (found u 3 (at + 4) 0 n) end
   unfolding run_chars
   eci_wrote n end mode e =
       let num : WroteEci u (at + 4) n end = eci_sound u (at + 4) n end b e in
@@ -118,8 +110,10 @@ module _ (v : ℕ) (u : List ℕ) (at : ℕ) (b : Binary u) (room : at + 4 ≤ l
         high = num.high;
       }
 
-  eci_step_sound : (k p n a end : ℕ) (g : Eci) → field u at 4 ≡ 7 → eci_at u (at + 4) ≡ g → from_eci (at + 4) g ≡ Found k p n a end → Stepped v u at k p n a end
-  eci_step_sound k p n a end (Value m e) mode q s =
+  eci_step_sound : (k p n a end : ℕ) (g : Number) → field u at 4 ≡ 7 → eci_at u (at + 4) ≡ g → from_eci (at + 4) g ≡ Found k p n a end → Stepped v u at k p n a end
+  eci_step_sound k p n a end (Ok x) mode q s =
+      let m : ℕ = x.assign in
+      let e : ℕ = x.end in
       let t : Same 3 (at + 4) 0 m e k p n a end = same_found 3 (at + 4) 0 m e k p n a end s in
       let w1 : Stepped v u at 3 (at + 4) 0 m e = record { wrote = eci_wrote m e mode q; run = λ l. absurd (omega arith); place = room } in
       let w2 : Stepped v u at k (at + 4) 0 m e = subst (λ (i : ℕ). Stepped v u at i (at + 4) 0 m e) t.kind w1 in
@@ -127,8 +121,7 @@ module _ (v : ℕ) (u : List ℕ) (at : ℕ) (b : Binary u) (room : at + 4 ≤ l
       let w4 : Stepped v u at k p n m e = subst (λ (i : ℕ). Stepped v u at k p i m e) t.count w3 in
       let w5 : Stepped v u at k p n a e = subst (λ (i : ℕ). Stepped v u at k p n i e) t.assign w4 in
       subst (λ (i : ℕ). Stepped v u at k p n a i) t.end w5
-  eci_step_sound k p n a end (Long-eci x) mode q s = no_found_long (at + 4) x k p n a end s
-  eci_step_sound k p n a end (Fault-eci x) mode q s = no_found x k p n a end s
+  eci_step_sound k p n a end (Err f) mode q s = no_found f.bit k p n a end s
 
 pub step_all : (v : ℕ) (u : List ℕ) (at k p n a end : ℕ) → Binary u → step_at v u at ≡ Found k p n a end → Stepped v u at k p n a end
 unfolding step_at step_by

@@ -1,7 +1,7 @@
 -- One segment: what stands at a bit. What is written is read.
 -- Assumes nothing.
 use Prim.Native.Nat.{ℕ, zero, suc, ◌+◌, ◌^◌, ◌≤◌, ◌<◌}
-use Rattle.std.specs.Prelude.{cond, ◌≡◌, T, leb, eqb}
+use Rattle.std.specs.Prelude.{cond, ◌≡◌, T, leb, eqb, Ok, Err, Result, Option, Some, None}
 use Rattle.std.proofs.Math.Path.{refl, ap}
 use Rattle.std.proofs.Common.{sym, ap₂, ◌∙◌, subst, arith, lit<, le-leb}
 use mathlib.Core.List.{List, [], ◌++◌, append_assoc, append-nil}
@@ -14,25 +14,30 @@ use Rattle.laws.specs.Tests.{cond_true}
 use Rattle.bits.specs.Fields.{field, field_hit, field_rest, field_room}
 use Rattle.segments.specs.Runs.{run_bits}
 use Rattle.segments.specs.Payload.{segment, payload_run}
-use Rattle.parser.specs.declared.Groups.{Groups}
-use Rattle.parser.specs.declared.Groups.TheVariants.{Next, Fault as Fault-groups}
-use Rattle.parser.specs.declared.Eci.{Eci}
-use Rattle.parser.specs.declared.Eci.TheVariants.{Value, Long as Long-eci, Fault as Fault-eci}
-use Rattle.parser.specs.declared.Step.{Step}
-use Rattle.parser.specs.declared.Step.TheVariants.{Found, Long, End, Fault}
+use Rattle.types.specs.Numbers.{kind_of}
+use Rattle.parser.specs.declared.Fault.{Fault as Faulty}
+use Rattle.parser.specs.declared.Segment.{Segment as Segmented}
+use Rattle.parser.specs.Faults.{Ends}
 use Rattle.parser.specs.Good.{good_cases}
 use Rattle.parser.specs.Runs.{run_end, run_chars, run_complete, Found as FoundRun}
-use Rattle.parser.specs.Eci.{eci_at, eci_complete, FoundEci}
+use Rattle.parser.specs.Eci.{Number, eci_at, eci_complete, FoundEci}
 
 -- ---- read
-abbrev pub from_run : ℕ → ℕ → ℕ → Groups → Step
-from_run k p n (Next e) = Found k p n 0 e
-from_run k p n (Fault-groups b) = Fault b
 
-abbrev pub from_eci : ℕ → Eci → Step
-from_eci p (Value n e) = Found 3 p 0 n e
-from_eci p (Long-eci e) = Long p e
-from_eci p (Fault-eci b) = Fault b
+-- what stands at a bit: a segment (its kind, the bit at which its payload begins, its count, its ECI number and the bit after it), the end of
+-- the segments, or a fault
+pub data Step : Type 0 where
+  Found : ℕ → ℕ → ℕ → ℕ → ℕ → Step
+  End : Step
+  Fault : ℕ → Step
+
+abbrev pub from_run : ℕ → ℕ → ℕ → Ends → Step
+from_run k p n (Ok e) = Found k p n 0 e
+from_run k p n (Err f) = Fault f.bit
+
+abbrev pub from_eci : ℕ → Number → Step
+from_eci p (Ok x) = Found 3 p 0 x.assign x.end
+from_eci p (Err f) = Fault f.bit
 
 -- characters of the kind k at the bit p, n of them
 abbrev pub run_step : List ℕ → ℕ → ℕ → ℕ → Step
@@ -53,6 +58,16 @@ step_by v u at m =
 -- with fewer than four bits left the data end
 unfoldable pub step_at : ℕ → List ℕ → ℕ → Step
 step_at v u at = cond (leb (at + 4) (length u)) (step_by v u at (field u at 4)) End
+
+-- what the code answers: a segment that it found, or that may be none
+abbrev pub found_of : Result Segmented Faulty → Step
+found_of (Ok s) = Found (kind_of s.mode) s.start s.count s.assign s.end
+found_of (Err f) = Fault f.bit
+
+abbrev pub step_of : Result (Option Segmented) Faulty → Step
+step_of (Ok (Some s)) = Found (kind_of s.mode) s.start s.count s.assign s.end
+step_of (Ok None) = End
+step_of (Err f) = Fault f.bit
 
 -- ---- the definition's bits
 

@@ -1,6 +1,6 @@
 -- The writing pass: characters and records of what is read, at the start of each lent slice.
 -- Assumes nothing.
-use Rattle.std.specs.Prelude.{ℕ, suc, ◌+◌, ◌-◌, ◌*◌, ◌^◌, ◌≤◌, ◌<◌, ◌≡◌, refl, List, [], ◌∷◌, ◌++◌, length, set, drop}
+use Rattle.std.specs.Prelude.{ℕ, suc, ◌+◌, ◌-◌, ◌*◌, ◌^◌, ◌≤◌, ◌<◌, ◌≡◌, refl, List, [], ◌∷◌, ◌++◌, length, set, drop, Ok, Err}
 use Rattle.std.proofs.Common.{sym, ap, ap₂, ◌∙◌, subst, append_assoc, append-nil, arith, length-append, drop-drop, take_at, take_all, lt-ltb, le-ltb}
 use Rattle.std.proofs.Math.Seq.{paste, paste-zero, paste-suc, drop-append-add}
 use Rattle.standard.specs.Bits.{unpack}
@@ -8,20 +8,16 @@ use Rattle.standard.specs.Read.{characters, record_of, records_from}
 use Rattle.standard.specs.Segments.{Part, Segment}
 use Rattle.laws.specs.Lists.{length_unpack}
 use Rattle.bits.specs.Fields.{binary_unpack}
-use Rattle.parser.specs.declared.Groups.{Groups}
-use Rattle.parser.specs.declared.Groups.TheVariants.{Next, Fault as Fault-groups}
-use Rattle.parser.specs.declared.Step.{Step}
-use Rattle.parser.specs.declared.Step.TheVariants.{Found, Long, End, Fault}
-use Rattle.parser.specs.declared.Counted.{Counted}
-use Rattle.parser.specs.declared.Counted.TheVariants.{Read, Bad}
+use Rattle.parser.specs.declared.Counts.{Counts}
+use Rattle.parser.specs.Faults.{Ends}
 use Rattle.parser.specs.Good.{good_cases}
 use Rattle.parser.specs.Runs.{run_end, run_chars}
-use Rattle.parser.specs.Steps.{step_at}
+use Rattle.parser.specs.Steps.{Step, Found, End, Fault, step_at}
 use Rattle.parser.specs.Stepped.{found, step_all, Stepped}
 use Rattle.parser.specs.Tail.{tail_at}
 use Rattle.parser.specs.Parse.{Parsed, read, bad, more, ended, after, parse_from, parse_step}
 use Rattle.parser.specs.Theorems.{parse}
-use Rattle.parser.specs.Counts.{counted, text_length, found_count}
+use Rattle.parser.specs.Counts.{Counted, counted, text_length, found_count}
 use Rattle.parser.specs.Parts.{start_of}
 
 -- the numbers of records, four to a record
@@ -40,11 +36,11 @@ records_after (bad b) q = q
 
 -- the data were counted, and the text and the records have room in slices of n and m numbers
 abbrev pub Room : Counted → ℕ → ℕ → Type 0
-Room (Read r t) n m = (t ≤ n) × (4 * r ≤ m)
-Room (Bad b) n m = ⊥
+Room (Ok c) n m = (c.text ≤ n) × (4 * c.records ≤ m)
+Room (Err f) n m = ⊥
 
-pub has_room : (x c : Counted) (r t n m : ℕ) → c ≡ x → c ≡ Read r t → t ≤ n → 4 * r ≤ m → Room x n m
-has_room x c r t n m e q h k = subst (λ (y : Counted). Room y n m) (sym q ∙ e) (h, k)
+pub has_room : (x c : Counted) (k : Counts) (n m : ℕ) → c ≡ x → c ≡ Ok k → k.text ≤ n → 4 * k.records ≤ m → Room x n m
+has_room x c k n m e q h j = subst (λ (y : Counted). Room y n m) (sym q ∙ e) (h, j)
 
 -- ---- one more at the end
 abbrev pub prepend : List Segment → Parsed → Parsed
@@ -170,8 +166,11 @@ module _ (v : ℕ) (buf : List ℕ) (at r t : ℕ) (o q o' q' : List ℕ) (D : D
     counts : length (run_chars kk (unpack buf) n p n) ≡ n
     counts = found_count v buf at z kk p n b e is was
 
-    pub seg_run : kk < 3 → run_end kk (unpack buf) n p n ≡ Next e
+    pub seg_run : kk < 3 → run_end kk (unpack buf) n p n ≡ Ok e
     seg_run h = stepped.run h
+
+    pub seg_place : p ≤ 8 * length buf
+    seg_place = omega (arith, stepped.place, length_unpack buf)
 
     pub seg_none : 3 ≤ kk → n ≡ 0
     seg_none h =
@@ -210,9 +209,9 @@ module _ (v : ℕ) (buf : List ℕ) (at r t : ℕ) (o q o' q' : List ℕ) (D : D
               ∙ ap₂ (λ (y : List ℕ) (i : ℕ). y ++ drop i q) (sym (numbers_snoc 0 d sg)) four;
         }
 
-  whole : (g : Groups) → parse v buf ≡ prepend D.done (ended g) → Room (counted (prepend D.done (ended g))) (length o) (length q) → parse v buf ≡ read D.done
-  whole (Next e) w h = w ∙ ap read (append-nil D.done)
-  whole (Fault-groups b) w h = absurd h
+  whole : (g : Ends) → parse v buf ≡ prepend D.done (ended g) → Room (counted (prepend D.done (ended g))) (length o) (length q) → parse v buf ≡ read D.done
+  whole (Ok e) w h = w ∙ ap read (append-nil D.done)
+  whole (Err f) w h = absurd h
 
   module _ (was : z ≡ End) where
     all_read : parse v buf ≡ read D.done
@@ -223,13 +222,6 @@ module _ (v : ℕ) (buf : List ℕ) (at r t : ℕ) (o q o' q' : List ℕ) (D : D
 
     pub end_records : q' ≡ records_after (parse v buf) q
     end_records = D.records ∙ ap (λ (j : ℕ). numbers_of (records_from 0 D.done) ++ drop (4 * j) q) (sym D.count) ∙ ap (λ (x : Parsed). records_after x q) (sym all_read)
-
-  module _ (b e : ℕ) (was : z ≡ Long b e) where
-    pub long_text : o' ≡ text_after (parse v buf) o
-    long_text = absurd (left (Long b e) was)
-
-    pub long_records : q' ≡ records_after (parse v buf) q
-    long_records = absurd (left (Long b e) was)
 
   module _ (b : ℕ) (was : z ≡ Fault b) where
     pub fault_text : o' ≡ text_after (parse v buf) o

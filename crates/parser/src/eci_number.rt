@@ -3,70 +3,59 @@ ghost use Rattle.std.specs.Prelude.{◌≡◌, ◌*◌, ◌≤◌, length};
 ghost use Rattle.standard.specs.Bits.{unpack};
 ghost use Rattle.parser.specs.Eci.{eci_two, eci_three, eci_at};
 
-use crate::Eci;
+use crate::Fault;
+use crate::fields::field_at;
 
-// An ECI number in two bytes, of which the first begins 10.
-fn eci_two(buf: &[u8], at: usize) -> Eci
+// An ECI number and the bit after it.
+#[derive(Clone, Copy, PartialEq, Eq)]
+pub struct Eci {
+    pub assign: u32,
+    pub end: usize,
+}
+
+// An ECI number in two bytes, of which the first begins 10. One below 128 has a shorter form.
+fn eci_two(buf: &[u8], at: usize) -> Result<Eci, Fault>
     requires { (length buf.now ≤ 4096) × (at ≤ 8 * length buf.now) }
     ensures { result ≡ eci_two (unpack buf.now) at }
 {
-    let total = buf.len() * 8;
-    if total < at + 16 {
-        return Eci::Fault(at);
-    }
-    let y = bits::read_bits(buf, at, 16) % 16384;
+    let y = field_at(buf, at, 16)? % 16384;
     if y < 128 {
-        return Eci::Long(at + 16);
+        return Err(Fault { bit: at });
     }
-    Eci::Value {
+    Ok(Eci {
         assign: y,
-        next: at + 16,
-    }
+        end: at + 16,
+    })
 }
 
-// An ECI number in three bytes, of which the first begins 110.
-fn eci_three(buf: &[u8], at: usize) -> Eci
+// An ECI number in three bytes, of which the first begins 110. One below 16,384 has a shorter form, and 999,999 is the largest.
+fn eci_three(buf: &[u8], at: usize) -> Result<Eci, Fault>
     requires { (length buf.now ≤ 4096) × (at ≤ 8 * length buf.now) }
     ensures { result ≡ eci_three (unpack buf.now) at }
 {
-    let total = buf.len() * 8;
-    if total < at + 24 {
-        return Eci::Fault(at);
+    let z = field_at(buf, at, 24)? % 2097152;
+    if z < 16384 || 999999 < z {
+        return Err(Fault { bit: at });
     }
-    let z = bits::read_bits(buf, at, 24) % 2097152;
-    if z < 16384 {
-        return Eci::Long(at + 24);
-    }
-    if z < 1000000 {
-        return Eci::Value {
-            assign: z,
-            next: at + 24,
-        };
-    }
-    Eci::Fault(at)
+    Ok(Eci {
+        assign: z,
+        end: at + 24,
+    })
 }
 
-// The ECI number that stands at bit at.
-pub fn eci_at(buf: &[u8], at: usize) -> Eci
+// The ECI number that stands at bit at, in its shortest form.
+pub fn eci_at(buf: &[u8], at: usize) -> Result<Eci, Fault>
     requires { (length buf.now ≤ 4096) × (at ≤ 8 * length buf.now) }
     ensures { result ≡ eci_at (unpack buf.now) at }
 {
-    let total = buf.len() * 8;
-    if total < at + 8 {
-        return Eci::Fault(at);
-    }
-    let x = bits::read_bits(buf, at, 8);
-    if x < 128 {
-        return Eci::Value {
+    let x = field_at(buf, at, 8)?;
+    match x {
+        0..=127 => Ok(Eci {
             assign: x,
-            next: at + 8,
-        };
+            end: at + 8,
+        }),
+        128..=191 => eci_two(buf, at),
+        192..=223 => eci_three(buf, at),
+        _ => Err(Fault { bit: at }),
     }
-    if x < 192 {
-        return eci_two(buf, at);
-    }
-    if x < 224 {
-        return eci_three(buf, at);
-    }
-    Eci::Fault(at)
 }

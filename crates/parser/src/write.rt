@@ -1,110 +1,88 @@
 // The characters of segments that have been checked, written into a lent text.
-ghost use Rattle.std.specs.Prelude.{◌≡◌, ◌+◌, ◌-◌, ◌*◌, ◌/◌, ◌%◌, ◌^◌, ◌<◌, ◌≤◌, length};
-ghost use Rattle.std.proofs.Math.Seq.{paste};
+ghost use Rattle.std.specs.Prelude.{◌≡◌, ◌-◌, ◌*◌, ◌/◌, ◌%◌, ◌^◌, ◌<◌, ◌≤◌, length, IsOk, Ok};
 ghost use Rattle.standard.specs.Bits.{unpack};
+ghost use Rattle.types.specs.Numbers.{kind_of, text_kind_of};
 ghost use Rattle.segments.specs.Kinds.{size, base, group_chars};
-ghost use Rattle.parser.specs.declared.Groups.TheVariants.{Next};
 ghost use Rattle.parser.specs.Runs.{run_end, run_chars};
 
+use crate::Segment;
+use types::{QrSegmentMode, TextKind};
+
 // Digit i of x in the base of a kind: divisions by numbers that are known beforehand.
-fn digit_of(kind: u8, x: u32, i: usize) -> u32
-    requires { (kind < 2) × (i < size kind) }
-    ensures { result ≡ x / base kind ^ i % base kind }
+fn digit_of(kind: TextKind, x: u32, i: usize) -> u32
+    requires { i < size (text_kind_of kind) }
+    ensures { result ≡ x / base (text_kind_of kind) ^ i % base (text_kind_of kind) }
 {
-    if kind == 0 {
-        if i == 0 {
-            return x % 10;
-        }
-        if i == 1 {
-            return x / 10 % 10;
-        }
-        return x / 100 % 10;
-    }
-    if i == 0 {
-        return x % 45;
-    }
-    x / 45 % 45
-}
-
-// Writes the m characters of a group's number.
-fn write_group(out: &mut [u8], at: usize, kind: u8, m: usize, x: u32)
-    requires { (kind < 2) × (m ≤ size kind) × (at + m ≤ length out.old) }
-    ensures { out.new ≡ paste out.old at (group_chars kind m x) m }
-{
-    let mut j: usize = 0;
-    while j < m {
-        let d = digit_of(kind, x, m - 1 - j);
-        let c = segments::char_of(kind, d);
-        let i = at + j;
-        out[i] = c;
-        j += 1;
+    match (kind, i) {
+        (TextKind::Numeric, 0) => x % 10,
+        (TextKind::Numeric, 1) => x / 10 % 10,
+        (TextKind::Numeric, _) => x / 100 % 10,
+        (TextKind::Alphanumeric, 0) => x % 45,
+        (TextKind::Alphanumeric, _) => x / 45 % 45,
+        (TextKind::Byte, _) => x % 256,
     }
 }
 
-// Writes the count bytes that stand from bit at on.
-fn write_bytes(buf: &[u8], at: usize, count: usize, out: &mut [u8], to: usize)
-    requires { (length buf.now ≤ 4096) × (8 * count ≤ 8 * length buf.now - at) × (to + count ≤ length out.old) }
-    ensures { out.new ≡ paste out.old to (run_chars 2 (unpack buf.now) count at count) count }
+// Writes the characters of a group's number, as many as out is long.
+fn write_group(kind: TextKind, x: u32, out: &mut [u8])
+    requires { length out.old ≤ size (text_kind_of kind) }
+    ensures { out.new ≡ group_chars (text_kind_of kind) (length out.old) x }
 {
-    let mut j: usize = 0;
-    while j < count {
-        let x = bits::read_bits(buf, at + 8 * j, 8);
-        let i = to + j;
-        out[i] = x as u8;
-        j += 1;
+    let m = out.len();
+    for i in 0..m {
+        out[i] = segments::char_of(kind, digit_of(kind, x, m - 1 - i));
     }
 }
 
-// Writes the characters of the last group of a run that has been checked: m of them, fewer than a full group has.
-fn write_last(buf: &[u8], kind: u8, at: usize, m: usize, end: usize, out: &mut [u8], to: usize)
-    requires { (kind < 2) × (m < size kind) × (length buf.now ≤ 4096) × (run_end kind (unpack buf.now) m at m ≡ Next end) × (to + m ≤ length out.old) }
-    ensures { out.new ≡ paste out.old to (run_chars kind (unpack buf.now) m at m) m }
+// Writes the characters of a group that stands at bit at and has been checked, as many as out is long.
+fn write_next(buf: &[u8], kind: TextKind, at: usize, out: &mut [u8])
+    requires { (length out.old ≤ size (text_kind_of kind)) × (length buf.now ≤ 4096) × (at ≤ 8 * length buf.now) × IsOk (run_end (text_kind_of kind) (unpack buf.now) (length out.old) at (length out.old)) }
+    ensures { out.new ≡ run_chars (text_kind_of kind) (unpack buf.now) (length out.old) at (length out.old) }
 {
-    if 0 < m {
-        let w = segments::width_of(kind, m);
-        let x = bits::read_bits(buf, at, w);
-        write_group(out, to, kind, m, x);
-    }
+    let w = segments::width_of(kind, out.len());
+    write_group(kind, bits::read_bits(buf, at, w), out);
 }
 
-// Writes the characters of a run that has been checked: count of them from bit at on, and end is the bit after them.
-fn write_run(buf: &[u8], kind: u8, at: usize, count: usize, end: usize, out: &mut [u8], to: usize)
-    requires { (kind < 2) × (length buf.now ≤ 4096) × (run_end kind (unpack buf.now) count at count ≡ Next end) × (to + count ≤ length out.old) }
-    ensures { out.new ≡ paste out.old to (run_chars kind (unpack buf.now) count at count) count }
+// Writes the characters of a run that stands from bit at on and has been checked, as many as out is long.
+fn write_run(buf: &[u8], kind: TextKind, at: usize, out: &mut [u8])
+    requires { (length buf.now ≤ 4096) × (at ≤ 8 * length buf.now) × IsOk (run_end (text_kind_of kind) (unpack buf.now) (length out.old) at (length out.old)) }
+    ensures { out.new ≡ run_chars (text_kind_of kind) (unpack buf.now) (length out.old) at (length out.old) }
 {
     let m = segments::size_of(kind);
     let w = segments::width_of(kind, m);
     let mut p = at;
-    let mut q = to;
-    let mut left = count;
-    while m <= left {
-        let x = bits::read_bits(buf, p, w);
-        write_group(out, q, kind, m, x);
+    let mut q = 0;
+    for _ in 0..out.len() / m {
+        write_next(buf, kind, p, &mut out[q..q + m]);
         p += w as usize;
         q += m;
-        left = left - m;
     }
-    write_last(buf, kind, p, left, end, out, q);
+    write_next(buf, kind, p, &mut out[q..]);
 }
 
-// Writes the characters of a segment that has been checked; an ECI segment has none.
-pub fn write_segment(
-    buf: &[u8],
-    kind: u8,
-    at: usize,
-    count: usize,
-    end: usize,
-    out: &mut [u8],
-    to: usize,
-)
-    requires { (length buf.now ≤ 4096) × (kind < 3 → run_end kind (unpack buf.now) count at count ≡ Next end) × (3 ≤ kind → count ≡ 0) × (to + count ≤ length out.old) }
-    ensures { out.new ≡ paste out.old to (run_chars kind (unpack buf.now) count at count) count }
+// Writes the bytes that stand from bit at on, as many as out is long.
+fn write_bytes(buf: &[u8], at: usize, out: &mut [u8])
+    requires { (length buf.now ≤ 4096) × (8 * length out.old ≤ 8 * length buf.now - at) }
+    ensures { out.new ≡ run_chars 2 (unpack buf.now) (length out.old) at (length out.old) }
 {
-    if kind < 2 {
-        write_run(buf, kind, at, count, end, out, to);
-        return;
+    for i in 0..out.len() {
+        out[i] = bits::read_bits(buf, at + 8 * i, 8) as u8;
     }
-    if kind == 2 {
-        write_bytes(buf, at, count, out, to);
+}
+
+// Writes the characters of a segment that has been checked, as many as out is long; an ECI segment has none.
+pub fn write_segment(buf: &[u8], seg: Segment, out: &mut [u8])
+    requires small { length buf.now ≤ 4096 }
+    requires start { seg.start ≤ 8 * length buf.now }
+    requires count { length out.old ≡ seg.count }
+    requires checked { kind_of seg.mode < 3 → run_end (kind_of seg.mode) (unpack buf.now) seg.count seg.start seg.count ≡ Ok seg.end }
+    requires eci { 3 ≤ kind_of seg.mode → seg.count ≡ 0 }
+    ensures { out.new ≡ run_chars (kind_of seg.mode) (unpack buf.now) seg.count seg.start seg.count }
+{
+    match seg.mode {
+        QrSegmentMode::Numeric => write_run(buf, TextKind::Numeric, seg.start, out),
+        QrSegmentMode::Alphanumeric => write_run(buf, TextKind::Alphanumeric, seg.start, out),
+        QrSegmentMode::Byte => write_bytes(buf, seg.start, out),
+        QrSegmentMode::Eci => {}
     }
 }

@@ -1,6 +1,6 @@
 -- The tests that tell whether a grid is the one that the codewords of its data draw.
 -- Assumes nothing.
-use Rattle.std.specs.Prelude.{ℕ, suc, ◌+◌, ◌-◌, ◌*◌, ◌≤◌, ◌<◌, Bool, not, ◌&&◌, ◌≡◌, refl, T, leb, eqb, length, get_or, take, replicate}
+use Rattle.std.specs.Prelude.{ℕ, suc, ◌+◌, ◌-◌, ◌*◌, ◌≤◌, ◌<◌, Bool, ◌&&◌, ◌≡◌, refl, T, leb, eqb, length, get_or, take, replicate}
 use Rattle.std.proofs.Math.Bool.{true, false, and-true, and-false, and_assoc}
 use Rattle.std.proofs.Common.{true≢false, sym, ap₂, ◌∙◌, leb→le, length-take, length-take-le, take_all, get_or-take}
 use mathlib.Core.List.{List, [], ◌∷◌, ◌++◌}
@@ -9,7 +9,6 @@ use native.Mathlib.Omega.{arith}
 use Rattle.std.proofs.lemmas.List.{length-replicate}
 use Rattle.std.proofs.Math.ListN.{get_or-eq_default}
 use Rattle.std.proofs.Math.Seq.{take-suc}
-use borrow.Author.Tests.{eq-eqb, ne_eqb}
 use Rattle.standard.specs.Numbers.{same}
 use Rattle.standard.specs.Sizes.{side, raw_codewords, data_codewords}
 use Rattle.standard.specs.Blocks.{all_words}
@@ -89,8 +88,8 @@ module _ (v l m : ℕ) (g all z d : List ℕ) (read : all ≡ read_words v l m g
 
 -- ---- the returns of the code
 
-pub functions_off : (a b r : Bool) → r ≡ a → not r ≡ true → false ≡ a && b
-functions_off a b true e f = absurd (true≢false (sym f))
+pub functions_off : (a b r : Bool) → r ≡ a → r ≡ false → false ≡ a && b
+functions_off a b true e f = absurd (true≢false f)
 functions_off a b false e f = rw (← e)
 
 same_last : (xs ys : List ℕ) (x y : ℕ) → length xs ≡ length ys → same (xs ++ (x ∷ [])) (ys ++ (y ∷ [])) ≡ same xs ys && eqb x y
@@ -112,17 +111,17 @@ module _ (v : ℕ) (ecl : QrCodeEcc) (a : Bool) (all d : List ℕ) (long : lengt
       ap (λ (l : List ℕ). same l (ws ++ (0 ∷ []))) (sym (take_all (suc n) all (omega arith)) ∙ take-suc all n 0 (omega arith))
       ∙ same_last (take n all) ws (get_or all n 0) 0 (length-take-le n all (omega arith) ∙ omega (arith, all_long v (level_of ecl) d (pair_range v (level_of ecl) low high (level_le ecl)) full))
 
-  pub last_off : (get_or all (length all - 1) 0 ≡ 0 → ⊥) → false ≡ a && same all (all_words v (level_of ecl) d ++ (0 ∷ []))
+  pub last_off : eqb (get_or all (length all - 1) 0) 0 ≡ false → false ≡ a && same all (all_words v (level_of ecl) d ++ (0 ∷ []))
   unfolding n ws
-  last_off h = rw (same_all, ne_eqb (get_or all n 0) 0 h, and-false (same (take n all) ws), and-false a)
+  last_off h = rw (same_all, h, and-false (same (take n all) ws), and-false a)
 
-  pub last_on : (b r : Bool) → b ≡ a → not b ≡ false → get_or all (length all - 1) 0 ≡ 0 → r ≡ same (take (length all - 1 - 0) all) (all_words v (level_of ecl) d)
+  pub last_on : (b r : Bool) → b ≡ a → b ≡ true → eqb (get_or all (length all - 1) 0) 0 ≡ true → r ≡ same (take (length all - 1 - 0) all) (all_words v (level_of ecl) d)
       → r ≡ a && same all (all_words v (level_of ecl) d ++ (0 ∷ []))
   unfolding n ws
-  last_on false r e f z q = absurd (true≢false f)
+  last_on false r e f z q = absurd (true≢false (sym f))
   last_on true r e f z q =
       let k : n - 0 ≡ n = omega arith in
-      rw (← e, same_all, eq-eqb (get_or all n 0) 0 z, ← (q ∙ ap (λ (i : ℕ). same (take i all) ws) k)) (sym (and-true r))
+      rw (← e, same_all, z, ← (q ∙ ap (λ (i : ℕ). same (take i all) ws) k)) (sym (and-true r))
 
 pub words_told : (v l : ℕ) (d all again : List ℕ) (r : Bool) → again ≡ all_words v l d → r ≡ same all again → r ≡ same all (all_words v l d)
 words_told v l d all again r e f = f ∙ ap (same all) e

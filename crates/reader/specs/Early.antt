@@ -1,66 +1,82 @@
--- The first checks: the version of a side, the first byte above 1, whether two lists are the same, and the refusal that comes first.
+-- The first checks: the version of a side, the first byte above 1, and the refusal that comes first.
 -- Assumes nothing.
-use Prim.Native.Nat.{ℕ, suc, ◌+◌, ◌-◌, ◌*◌, ◌/◌, ◌%◌, ◌≤◌, ◌<◌}
-use Rattle.std.specs.Prelude.{Bool, cond, ◌&&◌, List, ◌≡◌, refl, eqb, get_or, drop}
+use Prim.Native.Nat.{ℕ, ◌+◌, ◌-◌, ◌*◌, ◌/◌, ◌%◌, ◌≤◌, ◌<◌}
+use Rattle.std.specs.Prelude.{Bool, cond, ◌&&◌, List, ◌≡◌, refl, get_or, Option, Some, None, Result, Ok, Err, option_map, ok_or}
+use Rattle.std.specs.List.{position_or_len}
+use Rattle.std.proofs.lemmas.List.Sums.{position_or_len_is}
 use Rattle.std.proofs.Math.Bool.{true, false}
-use Rattle.std.proofs.Math.Path.{sym, ap}
-use Rattle.std.proofs.Common.{ap₂, ◌∙◌, mul-le-mul, add-one, drop_of_length-le, drop-cons}
+use Rattle.std.proofs.Math.Path.{sym, ap, subst}
+use Rattle.std.proofs.Common.{◌∙◌, mul-le-mul}
 use native.Mathlib.Omega.{arith}
 use Rattle.std.proofs.Math.Dec.{ltb}
 use Rattle.std.proofs.Math.ListN.{length}
 use borrow.Author.Tests.{lt-ltb, le-ltb, eq-eqb, ne_eqb, ltb-true, ltb-false}
-use Rattle.standard.specs.Numbers.{least, same}
 use Rattle.standard.specs.Sizes.{side}
 use Rattle.standard.specs.Plan.{refusal}
 use Rattle.standard.specs.Module.{version_of, valid_side}
 use Rattle.laws.specs.All.{all_to, all_next, all_at}
-use Rattle.laws.specs.Least.{least_before, least_none}
+use Rattle.laws.specs.Least.{least_within, least_bounds, least_before, least_none}
+use Rattle.types.specs.declared.Version.{Version}
+use Rattle.reader.specs.declared.Refusal.{Refusal}
+use Rattle.reader.specs.declared.Refusal.TheVariants.{Side}
+use Rattle.reader.specs.Answers.{Checks}
 use Rattle.modules.specs.Question.{valid_range, valid_low, valid_high, valid_rest}
 use Rattle.standard.specs.Read.{first_above, nothing, refused_by, first_refusal}
 
 -- ---- the version of a side
 
-abbrev pub version_in : ℕ → ℕ
-version_in s = cond (valid_side s) (version_of s) 0
+abbrev pub version_in : ℕ → Option ℕ
+version_in s = cond (valid_side s) (Some (version_of s)) None
 
-pub version_low : (s : ℕ) → s < 21 → 0 ≡ version_in s
+pub version_low : (s : ℕ) → s < 21 → None ≡ version_in s
 version_low s h = rw (← valid_low s h)
 
-pub version_high : (s : ℕ) → 177 < s → 0 ≡ version_in s
+pub version_high : (s : ℕ) → 177 < s → None ≡ version_in s
 version_high s h = rw (← valid_high s h)
 
-pub version_other : (s : ℕ) → 21 ≤ s → s ≤ 177 → (s % 4 ≡ 1 → ⊥) → 0 ≡ version_in s
+pub version_other : (s : ℕ) → 21 ≤ s → s ≤ 177 → (s % 4 ≡ 1 → ⊥) → None ≡ version_in s
 version_other s low high n = rw (← valid_rest s low high, ne_eqb (s % 4) 1 n)
 
-pub version_side : (s : ℕ) → 21 ≤ s → s ≤ 177 → s % 4 ≡ 1 → (s - 17) / 4 ≡ version_in s
+pub version_side : (s : ℕ) → 21 ≤ s → s ≤ 177 → s % 4 ≡ 1 → Some ((s - 17) / 4) ≡ version_in s
 version_side s low high e = rw (← valid_rest s low high, eq-eqb (s % 4) 1 e)
 
 -- ---- the first byte above 1
 
-unfoldable pub above_from : List ℕ → ℕ → ℕ
-above_from g i = least i (length g - i) (λ j. ltb 1 (get_or g j 0))
+-- the place, where there is one
+abbrev pub above_in : List ℕ → Option ℕ
+above_in g = cond (ltb (first_above g) (length g)) (Some (first_above g)) None
 
 module _ (g : List ℕ) where
-  pub above_start : first_above g ≡ above_from g 0
-  unfolding first_above above_from
-  above_start = let e : length g - 0 ≡ length g = omega arith in rw e
+  -- what a search from the front finds
+  pub above_first : position_or_len (λ b. ltb 1 b) g ≡ first_above g
+  unfolding first_above
+  above_first =
+      let p : ℕ → Bool = λ i. ltb 1 (get_or g i 0) in
+      position_or_len_is (λ b. ltb 1 b) g (first_above g) 0 (omega (arith, least_within p 0 (length g))) (λ k h. least_before p 0 (length g) k (omega arith) h) (λ h. (least_bounds p 0 (length g) (omega arith)).0)
 
-  above_step : (i : ℕ) (b : Bool) → i < length g → ltb 1 (get_or g i 0) ≡ b → above_from g i ≡ elim b [ true ↦ i | false ↦ above_from g (suc i) ]
-  unfolding above_from
-  above_step i b h q =
-      let e : length g - i ≡ suc (length g - suc i) = omega arith in
-      ap (λ (n : ℕ). least i n (λ j. ltb 1 (get_or g j 0))) e
-      ∙ ap (λ (t : Bool). elim t [ true ↦ i | false ↦ least (suc i) (length g - suc i) (λ j. ltb 1 (get_or g j 0)) ]) q
+  pub above_found : (r : Option ℕ) → r ≡ cond (ltb (position_or_len (λ b. ltb 1 b) g) (length g)) (Some (position_or_len (λ b. ltb 1 b) g)) None → r ≡ above_in g
+  above_found r e = e ∙ ap (λ (n : ℕ). cond (ltb n (length g)) (Some n) None) above_first
 
-  pub above_found : (i : ℕ) → first_above g ≡ above_from g i → i < length g → 1 < get_or g i 0 → i ≡ first_above g
-  above_found i e h k = sym (e ∙ above_step i true h (lt-ltb 1 (get_or g i 0) k))
+  pub above_some : (at : ℕ) → Some at ≡ above_in g → (at ≡ first_above g) × (at < length g)
+  above_some at e = go (ltb (first_above g) (length g)) refl
+    where
+      go : (b : Bool) → ltb (first_above g) (length g) ≡ b → (at ≡ first_above g) × (at < length g)
+      go true q =
+          let c : Some at ≡ Some (first_above g) = e ∙ ap (λ (t : Bool). cond t (Some (first_above g)) None) q in
+          let k : at ≡ first_above g = cc in
+          (k, omega (arith, ltb-true (first_above g) (length g) q))
+      go false q =
+          let c : Some at ≡ None = e ∙ ap (λ (t : Bool). cond t (Some (first_above g)) None) q in
+          cc
 
-  pub above_next : (i : ℕ) → first_above g ≡ above_from g i → i < length g → get_or g i 0 ≤ 1 → first_above g ≡ above_from g (i + 1)
-  above_next i e h k = e ∙ above_step i false h (le-ltb 1 (get_or g i 0) k) ∙ ap (above_from g) (sym (add-one i))
-
-  pub above_end : (i : ℕ) → first_above g ≡ above_from g i → i ≤ length g → length g ≤ i → i ≡ first_above g
-  unfolding above_from
-  above_end i e h k = let z : length g - i ≡ 0 = omega arith in sym (e ∙ ap (λ (n : ℕ). least i n (λ j. ltb 1 (get_or g j 0))) z)
+  pub above_no : None ≡ above_in g → length g ≤ first_above g
+  above_no e = go (ltb (first_above g) (length g)) refl
+    where
+      go : (b : Bool) → ltb (first_above g) (length g) ≡ b → length g ≤ first_above g
+      go true q =
+          let c : ◌≡◌ {A = Option ℕ} None (Some (first_above g)) = e ∙ ap (λ (t : Bool). cond t (Some (first_above g)) None) q in
+          cc
+      go false q = ltb-false (first_above g) (length g) q
 
   -- where none is above 1, every byte is 0 or 1
   pub above_none : length g ≤ first_above g → (i : ℕ) → i < length g → get_or g i 0 < 2
@@ -79,102 +95,87 @@ small_to n g = all_to n (λ k. ltb (get_or g k 0) 2)
 pub small_next : (g : List ℕ) (n : ℕ) (b : Bool) → b ≡ small_to n g → b && ltb (get_or g n 0) 2 ≡ small_to (n + 1) g
 small_next g n b e = all_next (λ k. ltb (get_or g k 0) 2) n b (ltb (get_or g n 0) 2) e refl
 
-pub small_all : (g : List ℕ) (b : Bool) → b ≡ small_to (length g) g → b ≡ true → length g ≡ first_above g
-small_all g b e t = sym (none_above g (λ i h. ltb-true (get_or g i 0) 2 (all_at (λ k. ltb (get_or g k 0) 2) (length g) i (sym e ∙ t) h)))
-
--- ---- two lists
-
-module _ (a b : List ℕ) (long : length a ≡ length b) where
-  same_step : (i : ℕ) → i < length a → same (drop i a) (drop i b) ≡ eqb (get_or a i 0) (get_or b i 0) && same (drop (suc i) a) (drop (suc i) b)
-  same_step i h = ap₂ same (drop-cons a i 0 h) (drop-cons b i 0 (omega arith))
-
-  pub same_next : (i : ℕ) → same a b ≡ same (drop i a) (drop i b) → i < length a → get_or a i 0 ≡ get_or b i 0 → same a b ≡ same (drop (i + 1) a) (drop (i + 1) b)
-  same_next i e h k =
-      e ∙ same_step i h ∙ ap (λ (t : Bool). t && same (drop (suc i) a) (drop (suc i) b)) (eq-eqb (get_or a i 0) (get_or b i 0) k)
-      ∙ ap (λ (n : ℕ). same (drop n a) (drop n b)) (sym (add-one i))
-
-  pub same_off : (i : ℕ) → same a b ≡ same (drop i a) (drop i b) → i < length a → (get_or a i 0 ≡ get_or b i 0 → ⊥) → false ≡ same a b
-  same_off i e h k = sym (e ∙ same_step i h ∙ ap (λ (t : Bool). t && same (drop (suc i) a) (drop (suc i) b)) (ne_eqb (get_or a i 0) (get_or b i 0) k))
-
-  pub same_end : (i : ℕ) → same a b ≡ same (drop i a) (drop i b) → length a ≤ i → true ≡ same a b
-  same_end i e h = sym (e ∙ ap₂ same (drop_of_length-le a {i = i} h) (drop_of_length-le b {i = i} (omega arith)))
+pub small_all : (g : List ℕ) (b : Bool) → b ≡ small_to (length g) g → b ≡ true → None ≡ above_in g
+small_all g b e t =
+    let k : first_above g ≡ length g = none_above g (λ i h. ltb-true (get_or g i 0) 2 (all_at (λ k. ltb (get_or g k 0) 2) (length g) i (sym e ∙ t) h)) in
+    rw (le-ltb (first_above g) (length g) (omega arith))
 
 -- ---- the refusal that comes first
 
--- the side is that of a version v, or v is 0
 pub record Sided (s v : ℕ) : Type 0 where
   pub valid : valid_side s ≡ true
-  pub least : 1 ≤ v
-  pub most : v ≤ 40
   pub is : s ≡ side v
 
-module _ (s v : ℕ) (e : v ≡ version_in s) where
-  pub side_none : v ≡ 0 → valid_side s ≡ false
+module _ (s : ℕ) (o : Option Version) (e : option_map (λ (v : Version). v.value) o ≡ version_in s) where
+  pub side_none : o ≡ None → valid_side s ≡ false
   side_none z = go (valid_side s) refl
     where
       go : (b : Bool) → valid_side s ≡ b → b ≡ false
       go true q =
-          let r = valid_range s q in
-          let c : v ≡ version_of s = e ∙ ap (λ (t : Bool). cond t (version_of s) 0) q in
-          absurd (omega arith)
+          let c : ◌≡◌ {A = Option ℕ} None (Some (version_of s)) = sym (ap (option_map (λ (v : Version). v.value)) z) ∙ e ∙ ap (λ (t : Bool). cond t (Some (version_of s)) None) q in
+          cc
       go false q = refl
 
-  pub sided : (v ≡ 0 → ⊥) → Sided s v
-  sided n = go (valid_side s) refl
+  pub sided : (v : Version) → o ≡ Some v → Sided s v.value
+  sided v z = go (valid_side s) refl
     where
-      go : (b : Bool) → valid_side s ≡ b → Sided s v
+      go : (b : Bool) → valid_side s ≡ b → Sided s v.value
       go true q =
           let r = valid_range s q in
-          let c : v ≡ version_of s = e ∙ ap (λ (t : Bool). cond t (version_of s) 0) q in
-          record { valid = q; least = omega arith; most = omega arith; is = r.0 ∙ ap side (sym c) }
-      go false q = absurd (n (e ∙ ap (λ (t : Bool). cond t (version_of s) 0) q))
+          let c : Some v.value ≡ Some (version_of s) = sym (ap (option_map (λ (v : Version). v.value)) z) ∙ e ∙ ap (λ (t : Bool). cond t (Some (version_of s)) None) q in
+          let k : v.value ≡ version_of s = cc in
+          record { valid = q; is = r.0 ∙ ap side (sym k) }
+      go false q =
+          let c : Some v.value ≡ None = sym (ap (option_map (λ (v : Version). v.value)) z) ∙ e ∙ ap (λ (t : Bool). cond t (Some (version_of s)) None) q in
+          cc
 
-module _ (g : List ℕ) (s room v : ℕ) (e : v ≡ version_in s) where
-  pub first_side : v ≡ 0 → first_refusal g s room ≡ refused_by (refusal 11 s 0)
+module _ (g : List ℕ) (s room : ℕ) (o : Option Version) (e : option_map (λ (v : Version). v.value) o ≡ version_in s) where
+  first_side : o ≡ None → first_refusal g s room ≡ refused_by (refusal 11 s 0)
   unfolding first_refusal
-  first_side z = rw (side_none s v e z)
+  first_side z = rw (side_none s o e z)
 
-  module _ (n : v ≡ 0 → ⊥) where
+  -- where there is no version, the side is refused
+  pub first_refused : (w : Result Version Refusal) (f : Refusal) → w ≡ ok_or o (Side s) → w ≡ Err f → Checks g s room (Err f)
+  first_refused w f q was = go o refl
+    where
+      go : (p : Option Version) → o ≡ p → Checks g s room (Err f)
+      go None z =
+          let k : ◌≡◌ {A = Result Version Refusal} (Err (Side s)) (Err f) = sym (q ∙ ap (λ (x : Option Version). ok_or x (Side s)) z) ∙ was in
+          let i : Side s ≡ f = cc in
+          subst (λ (x : Refusal). Checks g s room (Err x)) i (first_side z)
+      go (Some v) z =
+          let k : ◌≡◌ {A = Result Version Refusal} (Ok v) (Err f) = sym (q ∙ ap (λ (x : Option Version). ok_or x (Side s)) z) ∙ was in
+          cc
+
+  module _ (v : Version) (is : o ≡ Some v) where
     -- the square of a side is small
     pub area_fits : s * s < 18446744073709551616
     area_fits =
-        let k : s ≤ 177 = omega (arith, (sided s v e n).most, (sided s v e n).is) in
+        let k : s ≤ 177 = omega (arith, v.in_range.1, (sided s o e v is).is) in
         let b : s * s ≤ 31329 = mul-le-mul k k in
         omega arith
 
     pub first_length : (length g ≡ s * s → ⊥) → first_refusal g s room ≡ refused_by (refusal 12 (s * s) 0)
     unfolding first_refusal
-    first_length k = rw ((sided s v e n).valid, ne_eqb (length g) (s * s) k)
+    first_length k = rw ((sided s o e v is).valid, ne_eqb (length g) (s * s) k)
 
-    pub first_byte : (at : ℕ) → length g ≡ s * s → at ≡ first_above g → at < length g → first_refusal g s room ≡ refused_by (refusal 13 at 0)
-    unfolding first_refusal
-    first_byte at k q h = rw ((sided s v e n).valid, eq-eqb (length g) (s * s) k, ← q, lt-ltb at (length g) h)
+    module _ (r : Option ℕ) (q : r ≡ above_in g) (k : length g ≡ s * s) where
+      pub first_byte : (at : ℕ) → r ≡ Some at → first_refusal g s room ≡ refused_by (refusal 13 at 0)
+      unfolding first_refusal
+      first_byte at z =
+          let f = above_some g at (sym z ∙ q) in
+          rw ((sided s o e v is).valid, eq-eqb (length g) (s * s) k, ← f.0, lt-ltb at (length g) f.1)
 
-    pub first_scratch : (at : ℕ) → length g ≡ s * s → at ≡ first_above g → length g ≤ at → room < 40_000 → first_refusal g s room ≡ refused_by (refusal 9 40_000 0)
-    unfolding first_refusal
-    first_scratch at k q h r = rw ((sided s v e n).valid, eq-eqb (length g) (s * s) k, ← q, le-ltb at (length g) h, lt-ltb room 40_000 r)
+      pub first_scratch : r ≡ None → room < 40_000 → first_refusal g s room ≡ refused_by (refusal 9 40_000 0)
+      unfolding first_refusal
+      first_scratch z h = rw ((sided s o e v is).valid, eq-eqb (length g) (s * s) k, le-ltb (first_above g) (length g) (above_no g (sym z ∙ q)), lt-ltb room 40_000 h)
 
-    pub first_none : (at : ℕ) → length g ≡ s * s → at ≡ first_above g → length g ≤ at → 40_000 ≤ room → first_refusal g s room ≡ nothing
-    unfolding first_refusal
-    first_none at k q h r = rw ((sided s v e n).valid, eq-eqb (length g) (s * s) k, ← q, le-ltb at (length g) h, le-ltb room 40_000 r)
+      pub first_none : r ≡ None → 40_000 ≤ room → first_refusal g s room ≡ nothing
+      unfolding first_refusal
+      first_none z h = rw ((sided s o e v is).valid, eq-eqb (length g) (s * s) k, le-ltb (first_above g) (length g) (above_no g (sym z ∙ q)), le-ltb room 40_000 h)
 
-    pub sided_least : 1 ≤ v
-    sided_least = (sided s v e n).least
-
-    pub sided_most : v ≤ 40
-    sided_most = (sided s v e n).most
-
-    pub fine_bytes : (at : ℕ) → at ≡ first_above g → length g ≤ at → length g ≤ first_above g
-    fine_bytes at q h = omega arith
-
-    pub fine_least : (w : ℕ) → w ≡ v → 1 ≤ w
-    fine_least w q = omega (arith, (sided s v e n).least)
-
-    pub fine_most : (w : ℕ) → w ≡ v → w ≤ 40
-    fine_most w q = omega (arith, (sided s v e n).most)
-
-    pub fine_side : (w : ℕ) → w ≡ v → s ≡ side w
-    fine_side w q = (sided s v e n).is ∙ ap side (sym q)
-
-    pub fine_square : (w : ℕ) → w ≡ v → length g ≡ s * s → length g ≡ side w * side w
-    fine_square w q k = k ∙ ap (λ (x : ℕ). x * x) (fine_side w q)
+      -- all that the first checks find
+      pub first_fine : r ≡ None → 40_000 ≤ room → Checks g s room (Ok v)
+      first_fine z h =
+          let side : s ≡ side v.value = (sided s o e v is).is in
+          (first_none z h, side, k ∙ ap (λ (x : ℕ). x * x) side, h, above_no g (sym z ∙ q))

@@ -1,6 +1,6 @@
 -- The entry: what the first checks come to, and scratch that is drawn in and then zeroed.
 -- Assumes nothing.
-use Rattle.std.specs.Prelude.{ℕ, ◌+◌, ◌-◌, ◌*◌, ◌/◌, ◌≤◌, List, ◌++◌, ◌≡◌, refl, length, take, drop, replicate}
+use Rattle.std.specs.Prelude.{ℕ, ◌+◌, ◌-◌, ◌*◌, ◌/◌, ◌≤◌, List, ◌++◌, ◌≡◌, refl, length, take, drop, replicate, Result, Ok, Err}
 use Rattle.std.proofs.Common.{sym, ap, ap₂, ◌∙◌, subst, arith, length-append, length-take, length-drop, drop-drop, take_at}
 use Rattle.std.proofs.lemmas.List.{length-replicate, replicate-append-replicate}
 use Rattle.std.proofs.Math.Seq.{drop-append-add}
@@ -10,16 +10,12 @@ use Rattle.laws.specs.Grid.{Square, area_small}
 use Rattle.modules.specs.Work.{Small}
 use Rattle.types.specs.declared.Version.{Version}
 use Rattle.types.specs.declared.QrCodeEcc.{QrCodeEcc}
-use Rattle.types.specs.Numbers.{level_of, IsVersion}
+use Rattle.types.specs.Numbers.{level_of}
 use Rattle.reader.specs.declared.Refusal.{Refusal}
-use Rattle.reader.specs.declared.Outcome.{Outcome}
-use Rattle.reader.specs.declared.Outcome.TheVariants.{Refused}
-use Rattle.reader.specs.declared.Early.{Early}
-use Rattle.reader.specs.declared.Early.TheVariants.{Fine, Refused as Stopped}
 use Rattle.reader.specs.Early.{above_none}
 use Rattle.standard.specs.Read.{first_above, nothing, refused_by, first_refusal, Finds, refuses, looks}
 use Rattle.segments.specs.Records.{parts_of}
-use Rattle.reader.specs.Answers.{refusal_of, read_of, Checks}
+use Rattle.reader.specs.Answers.{Outcome, refusal_of, read_of, Checks}
 use Rattle.reader.specs.Numbers.{FindsNumbers, ReadsNumbers}
 use Rattle.reader.specs.Recovered.{raw_fits, data_fits, Looks}
 
@@ -70,27 +66,24 @@ finds_zeroed g text records s t r o q l e =
 
 -- ---- the first checks
 
-module _ (g : List ℕ) (s : ℕ) (scratch : List ℕ) (e : Early) (is : Checks g s (length scratch) e) where
-  pub reads_refused : (text records : List ℕ) (f : Refusal) → e ≡ Stopped f → ReadsNumbers g s text records scratch (Refused f) text records scratch
+module _ (g : List ℕ) (s : ℕ) (scratch : List ℕ) (e : Result Version Refusal) (is : Checks g s (length scratch) e) where
+  pub reads_refused : (text records : List ℕ) (f : Refusal) → e ≡ Err f → ReadsNumbers g s text records scratch (Err f) text records scratch
   reads_refused text records f was =
       let k : first_refusal g s (length scratch) ≡ refused_by (refusal_of f) = subst (Checks g s (length scratch)) was is in
       record { reads = refuses (refusal_of f) k refl; rest = refl }
 
-  module _ (v : Version) (was : e ≡ Fine v) where
-    fine : (first_refusal g s (length scratch) ≡ nothing) × IsVersion v × (s ≡ side v.0) × (length g ≡ side v.0 * side v.0) × (40_000 ≤ length scratch) × (length g ≤ first_above g)
+  module _ (v : Version) (was : e ≡ Ok v) where
+    fine : (first_refusal g s (length scratch) ≡ nothing) × (s ≡ side v.value) × (length g ≡ side v.value * side v.value) × (40_000 ≤ length scratch) × (length g ≤ first_above g)
     fine = subst (Checks g s (length scratch)) was is
 
-    pub fine_version : IsVersion v
-    fine_version = fine.1
-
-    pub fine_grid : Square g (side v.0)
-    fine_grid = record { size = fine.3; small = omega (arith, fine.1.1) }
+    pub fine_grid : Square g (side v.value)
+    fine_grid = record { size = fine.2; small = omega (arith, v.in_range.1) }
 
     pub fine_room : 40_000 ≤ length scratch
-    fine_room = fine.4
+    fine_room = fine.3
 
-    pub fine_small : Small v.0 g
-    fine_small i h = above_none g fine.5 i (omega (arith, fine.3))
+    pub fine_small : Small v.value g
+    fine_small i h = above_none g fine.4 i (omega (arith, fine.2))
 
     pub reads_found : (text records : List ℕ) (r : Outcome) (o q z : List ℕ) → FindsNumbers g text records (zeroed scratch) r o q z → ReadsNumbers g s text records scratch r o q z
     reads_found text records r o q z f = record { reads = looks fine.0 f.finds; rest = f.rest }

@@ -10,8 +10,7 @@ use Rattle.laws.specs.Lists.{get_d_tabulate, is_tabulate}
 use Rattle.segments.specs.Records.{part_of, part_at, parts_of, parts_length}
 use Rattle.parser.specs.Written.{numbers_of}
 use Rattle.parser.specs.Meaning.{length_numbers, part_later}
-use Rattle.reader.specs.declared.Outcome.{Outcome}
-use Rattle.reader.specs.Answers.{read_of}
+use Rattle.reader.specs.Answers.{Outcome, read_of}
 use Rattle.reader.specs.Theorems.{read_unique}
 
 -- what follows the last whole record is as it was

@@ -1,6 +1,6 @@
 -- Data codewords that are read from a grid: it shows a label exactly if they draw it and say one.
 -- Assumes nothing.
-use Rattle.std.specs.Prelude.{ℕ, ◌+◌, ◌*◌, ◌/◌, ◌≤◌, Bool, not, ◌≡◌, refl, take, replicate}
+use Rattle.std.specs.Prelude.{ℕ, ◌+◌, ◌*◌, ◌/◌, ◌≤◌, Bool, not, ◌≡◌, refl, take, replicate, Err}
 use Rattle.std.proofs.Math.Bool.{true, false, true≢false}
 use mathlib.Core.List.{List, [], ◌∷◌, ◌++◌}
 use Rattle.std.proofs.Math.Path.{sym, ap, subst}
@@ -16,6 +16,7 @@ use Rattle.standard.specs.Label.{Label, grid_of, Shows}
 use Rattle.laws.specs.Tests.{true_T}
 use Rattle.laws.specs.Lists.{same_eq, same_refl}
 use Rattle.counts.specs.Ranges.{version_range, pair_range}
+use Rattle.types.specs.declared.Version.{Version}
 use Rattle.types.specs.declared.QrCodeEcc.{QrCodeEcc}
 use Rattle.types.specs.Numbers.{level_of}
 use Rattle.segments.specs.Records.{parts_of}
@@ -25,11 +26,9 @@ use Rattle.modules.specs.FormatBack.{read_level, read_mask}
 use Rattle.modules.specs.Back.{read_words}
 use Rattle.modules.specs.Reading.{Drawable, read_drawn}
 use Rattle.types.specs.Laws.{level_le}
-use Rattle.reader.specs.declared.Outcome.{Outcome}
-use Rattle.reader.specs.declared.Outcome.TheVariants.{Refused}
 use Rattle.reader.specs.declared.Refusal.TheVariants.{NoLabel}
 use Rattle.standard.specs.Read.{Read, Finds, shown, none}
-use Rattle.reader.specs.Answers.{read_of}
+use Rattle.reader.specs.Answers.{Outcome, read_of}
 use Rattle.reader.specs.Numbers.{Rest}
 use Rattle.reader.specs.Labels.{Proper, proper, is_label_lem, label_of, codewords_of, words_long, drawable, grid_length, side_of_square}
 use Rattle.reader.specs.Told.{Told, says, silent, Tells}
@@ -41,9 +40,9 @@ pub record Looks (g text records : List ℕ) (r : Outcome) (o q : List ℕ) : Ty
 
 -- ---- sizes
 
-pub raw_small : (v n : ℕ) → n ≡ raw_codewords v + 1 → 1 ≤ v → v ≤ 40 → n ≤ 4096
+pub raw_small : (v : Version) (n : ℕ) → n ≡ raw_codewords v.value + 1 → n ≤ 4096
 unfolding raw_codewords
-raw_small v n e low high = omega (arith, (version_range v low high).most)
+raw_small v n e = omega (arith, (version_range v.value v.in_range.0 v.in_range.1).most)
 
 pub raw_fits : (v n : ℕ) → n ≡ raw_modules v → 1 ≤ v → v ≤ 40 → n / 8 + 1 ≤ 3707
 raw_fits v n e low high = omega (arith, (version_range v low high).most)
@@ -107,7 +106,7 @@ module _ (v l m : ℕ) (g d : List ℕ) (size : length g ≡ side v * side v) (l
         let t : true ≡ false = sym (ap (same g) (sym e ∙ sym x.drawn) ∙ same_refl g) ∙ sym tested ∙ f in
         true≢false t
 
-    pub looks_none : (text records : List ℕ) → not r ≡ true → Looks g text records (Refused NoLabel) text records
+    pub looks_none : (text records : List ℕ) → not r ≡ true → Looks g text records (Err NoLabel) text records
     looks_none text records f = record { at = λ z. none (never (not_eq f)) refl; rest = refl }
       where
         not_eq : not r ≡ true → r ≡ false

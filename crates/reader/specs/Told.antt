@@ -1,6 +1,6 @@
 -- What data codewords say: the list of segments whose codewords they are, or that there is none.
 -- Assumes nothing.
-use Rattle.std.specs.Prelude.{ℕ, ◌*◌, ◌/◌, ◌≤◌, ◌<◌, List, ◌++◌, ◌≡◌, refl, T}
+use Rattle.std.specs.Prelude.{ℕ, ◌*◌, ◌/◌, ◌≤◌, ◌<◌, List, ◌++◌, ◌≡◌, refl, T, Ok, Err}
 use Rattle.std.proofs.Common.{arith, ◌∙◌}
 use Rattle.std.proofs.Math.Path.{sym, ap}
 use Rattle.std.proofs.Math.ListN.{length, drop}
@@ -11,16 +11,15 @@ use Rattle.standard.specs.Segments.{Part, Segment, good_segment, fits}
 use Rattle.standard.specs.Codewords.{data_words}
 use Rattle.standard.specs.Field.{Bytes}
 use Rattle.standard.specs.Plan.{refusal}
-use Rattle.parser.specs.declared.Counted.{Counted}
-use Rattle.parser.specs.declared.Counted.TheVariants.{Read as Counts, Bad}
+use Rattle.parser.specs.declared.Fault.{Fault}
+use Rattle.parser.specs.declared.Counts.{Counts}
 use Rattle.parser.specs.Parse.{Parsed}
 use Rattle.parser.specs.Theorems.{parse, Encoded}
-use Rattle.parser.specs.Counts.{counted}
+use Rattle.parser.specs.Counts.{Counted, counted}
 use Rattle.parser.specs.Written.{text_after, records_after, length_characters}
 use Rattle.parser.specs.Answers.{Accepted, accepted, refused}
 use Rattle.standard.specs.Read.{read_as, Read, refuse_to, characters, records_from, written, labelled}
-use Rattle.reader.specs.declared.Outcome.{Outcome}
-use Rattle.reader.specs.Answers.{read_of}
+use Rattle.reader.specs.Answers.{Outcome, read_of}
 use Rattle.reader.specs.Labels.{label_of}
 use Rattle.segments.specs.Records.{parts_of, parts_length}
 use Rattle.reader.specs.Numbers.{Rest, parts_after, rest_after}
@@ -37,12 +36,18 @@ pub record Tells (v l m : ℕ) (ws text records : List ℕ) (r : Outcome) (o q :
   pub rest : Rest records q
 
 module _ (v l m : ℕ) (ws text records z : List ℕ) (c : Counted) (is : c ≡ counted (parse v ws)) where
-  pub told_bad : (b : ℕ) → c ≡ Bad b → Told v l m ws text (parts_of records) z (refuse_to (refusal 14 0 0) text (parts_of records) z)
-  told_bad b e = silent (refused v l ws b (sym is ∙ e)) refl
+  pub told_bad : (f : Fault) → c ≡ Err f → Told v l m ws text (parts_of records) z (refuse_to (refusal 14 0 0) text (parts_of records) z)
+  told_bad f e = silent (refused v l ws f (sym is ∙ e)) refl
 
-  module _ (hb : Bytes ws) (hl : length ws ≡ data_codewords v l) (r t : ℕ) (was : c ≡ Counts r t) where
-    A : Accepted v l ws r t
-    A = accepted v l ws hb hl r t (sym is ∙ was)
+  module _ (hb : Bytes ws) (hl : length ws ≡ data_codewords v l) (n : Counts) (was : c ≡ Ok n) where
+    abbrev r : ℕ
+    r = n.records
+
+    abbrev t : ℕ
+    t = n.text
+
+    A : Accepted v l ws n.records n.text
+    A = accepted v l ws hb hl n (sym is ∙ was)
 
     long : t ≡ length (characters A.segments)
     long = A.text ∙ sym (length_characters A.segments)

@@ -19,11 +19,10 @@ ghost use Rattle.reader.specs.Told.{Tells};
 ghost use Rattle.reader.specs.Recovered.{Looks};
 ghost use Rattle.standard.specs.Encode.{zeroed};
 
-use parser::Counted;
 use types::{Mask, QrCodeEcc, Version};
 
 // Why a grid is not read.
-#[derive(Clone, Copy)]
+#[derive(Clone, Copy, PartialEq, Eq)]
 pub enum Refusal {
     // The side is that of no version.
     Side(usize),
@@ -41,45 +40,21 @@ pub enum Refusal {
     Records(usize),
 }
 
-// What a reading answers.
-#[derive(Clone, Copy)]
-pub enum Outcome {
-    Refused(Refusal),
-    Label {
-        version: Version,
-        level: QrCodeEcc,
-        mask: Mask,
-        records: usize,
-        text: usize,
-    },
-}
-
-// What the first checks answer: the version, or a refusal.
-#[derive(Clone, Copy)]
-enum Early {
-    Fine(Version),
-    Refused(Refusal),
+// A label that was read: how many records and characters of text it has.
+#[derive(Clone, Copy, PartialEq, Eq)]
+pub struct Label {
+    pub version: Version,
+    pub level: QrCodeEcc,
+    pub mask: Mask,
+    pub records: usize,
+    pub text: usize,
 }
 
 /*---- The label ----*/
 
-// Whether two slices of one length have the same bytes.
-fn equal(a: &[u8], b: &[u8]) -> bool
-    requires { length a.now ≡ length b.now }
-    ensures { result ≡ same a.now b.now }
-{
-    let mut i: usize = 0;
-    while i < a.len() {
-        if a[i] != b[i] {
-            return false;
-        }
-        i += 1;
-    }
-    true
-}
-
 // Reads all codewords of a grid into all, which is zero and one byte longer, for the remainder modules; and the data codewords
 // into data. Work is to draw in.
+#[tactic(auto, using(crate::specs::Recovered::raw_small))]
 fn read_data(
     grid: &[u8],
     ver: Version,
@@ -89,9 +64,9 @@ fn read_data(
     all: &mut [u8],
     data: &mut [u8],
 )
-    requires square { Square grid.now (side ver.value) }
-    requires square_2 { Square work.old (side ver.value) }
-    requires version { (length all.old ≡ raw_codewords ver.value + 1) × (length «data».old ≡ data_codewords ver.value (level_of ecl)) }
+    requires grid { Square grid.now (side ver.value) }
+    requires work { Square work.old (side ver.value) }
+    requires lengths { (length all.old ≡ raw_codewords ver.value + 1) × (length «data».old ≡ data_codewords ver.value (level_of ecl)) }
     ensures all_after { all.new ≡ read_words ver.value (level_of ecl) mask.value grid.now all.old }
     ensures data_after { «data».new ≡ data_of ver.value (level_of ecl) (take (raw_codewords ver.value) all.new) }
     ensures work_after { work.new ≡ read_grid ver.value (level_of ecl) mask.value grid.now }
@@ -107,7 +82,7 @@ fn same_words(ver: Version, ecl: QrCodeEcc, data: &[u8], all: &[u8], again: &mut
     ensures { result ≡ same all.now (all_words ver.value (level_of ecl) «data».now) }
 {
     blocks::add_ecc_and_interleave(ver, ecl, data, again);
-    equal(all, again)
+    *all == *again
 }
 
 // Whether the function modules of work stand in grid, and what was read into all are the codewords of data, and remainder
@@ -120,18 +95,14 @@ fn is_drawn(
     all: &[u8],
     work: &mut [u8],
 ) -> bool
-    requires grid_len { (length grid.now ≡ length work.old) × Square work.old (side ver.value) }
-    requires version { (length all.now ≡ raw_codewords ver.value + 1) × (length «data».now ≡ data_codewords ver.value (level_of ecl)) }
+    requires work { (length grid.now ≡ length work.old) × Square work.old (side ver.value) }
+    requires lengths { (length all.now ≡ raw_codewords ver.value + 1) × (length «data».now ≡ data_codewords ver.value (level_of ecl)) }
     ensures { result ≡ agree_to (length work.old) grid.now work.old && same all.now (all_words ver.value (level_of ecl) «data».now ++ (0 ∷ [])) }
 {
-    if !modules::same_functions(grid, work) {
-        return false;
-    }
     let raw = all.len() - 1;
-    if all[raw] != 0 {
-        return false;
-    }
-    same_words(ver, ecl, data, &all[0..raw], &mut work[0..raw])
+    modules::same_functions(grid, work)
+        && all[raw] == 0
+        && same_words(ver, ecl, data, &all[0..raw], &mut work[0..raw])
 }
 
 // Parses data codewords strictly, and writes text and records where there is room.
@@ -142,33 +113,27 @@ fn tell(
     mask: Mask,
     text: &mut [u8],
     records: &mut [u64],
-) -> Outcome
+) -> Result<Label, Refusal>
     requires { (length «data».now ≡ data_codewords ver.value (level_of ecl)) }
     ensures { Tells ver.value (level_of ecl) mask.value «data».now text.old records.old result text.new records.new }
 {
-    let c = parser::count_all(data, ver);
-    match c {
-        Counted::Bad(b) => Outcome::Refused(Refusal::NoLabel),
-        Counted::Read {
-            records: count,
-            text: len,
-        } => {
-            if text.len() < len {
-                return Outcome::Refused(Refusal::Text(len));
-            }
-            if records.len() / 4 < count {
-                return Outcome::Refused(Refusal::Records(count));
-            }
-            parser::write_all(data, ver, text, records);
-            Outcome::Label {
-                version: ver,
-                level: ecl,
-                mask: mask,
-                records: count,
-                text: len,
-            }
-        }
+    let Ok(counts) = parser::count_all(data, ver) else {
+        return Err(Refusal::NoLabel);
+    };
+    if text.len() < counts.text {
+        return Err(Refusal::Text(counts.text));
     }
+    if records.len() / 4 < counts.records {
+        return Err(Refusal::Records(counts.records));
+    }
+    parser::write_all(data, ver, text, records);
+    Ok(Label {
+        version: ver,
+        level: ecl,
+        mask,
+        records: counts.records,
+        text: counts.text,
+    })
 }
 
 // Reads a grid at its version, level and mask.
@@ -182,16 +147,16 @@ fn read_words(
     work: &mut [u8],
     all: &mut [u8],
     data: &mut [u8],
-) -> Outcome
-    requires square { Square grid.now (side ver.value) }
-    requires square_2 { Square work.old (side ver.value) }
-    requires version { (all.old ≡ replicate (raw_codewords ver.value + 1) 0) × (length «data».old ≡ data_codewords ver.value (level_of ecl)) }
-    requires ecl_value { (level_of ecl ≡ read_level (side ver.value) grid.now) × (mask.value ≡ read_mask (side ver.value) grid.now) × Small ver.value grid.now }
+) -> Result<Label, Refusal>
+    requires grid { Square grid.now (side ver.value) }
+    requires work { Square work.old (side ver.value) }
+    requires lengths { (all.old ≡ replicate (raw_codewords ver.value + 1) 0) × (length «data».old ≡ data_codewords ver.value (level_of ecl)) }
+    requires format { (level_of ecl ≡ read_level (side ver.value) grid.now) × (mask.value ≡ read_mask (side ver.value) grid.now) × Small ver.value grid.now }
     ensures { Looks grid.now text.old records.old result text.new records.new }
 {
     read_data(grid, ver, ecl, mask, work, all, data);
     if !is_drawn(grid, ver, ecl, data, all, work) {
-        return Outcome::Refused(Refusal::NoLabel);
+        return Err(Refusal::NoLabel);
     }
     tell(data, ver, ecl, mask, text, records)
 }
@@ -203,10 +168,10 @@ fn read_square(
     text: &mut [u8],
     records: &mut [u64],
     work: &mut [u8],
-) -> Outcome
-    requires square { Square grid.now (side ver.value) }
-    requires square_2 { Square work.old (side ver.value) }
-    requires version { Small ver.value grid.now }
+) -> Result<Label, Refusal>
+    requires grid { Square grid.now (side ver.value) }
+    requires work { Square work.old (side ver.value) }
+    requires small { Small ver.value grid.now }
     ensures { Looks grid.now text.old records.old result text.new records.new }
 {
     let ecl = modules::read_level(grid, ver);
@@ -230,15 +195,6 @@ fn read_square(
 
 /*---- The entry ----*/
 
-// Makes all bytes 0.
-fn zero(bytes: &mut [u8])
-    ensures { bytes.new ≡ replicate (length bytes.old) 0 }
-{
-    for k in 0..bytes.len() {
-        bytes[k] = 0;
-    }
-}
-
 // Reads a grid of a version in scratch, and zeroes that.
 fn read_checked(
     grid: &[u8],
@@ -246,15 +202,16 @@ fn read_checked(
     text: &mut [u8],
     records: &mut [u64],
     scratch: &mut [u8],
-) -> Outcome
-    requires square { Square grid.now (side ver.value) }
-    requires version { (40000 ≤ length scratch.old) × Small ver.value grid.now }
+) -> Result<Label, Refusal>
+    requires grid { Square grid.now (side ver.value) }
+    requires small { Small ver.value grid.now }
+    requires scratch { 40000 ≤ length scratch.old }
     ensures { FindsNumbers grid.now text.old records.old (zeroed scratch.old) result text.new records.new scratch.new }
 {
     let size = patterns::size_of(ver);
     let area = size * size;
     let r = read_square(grid, ver, text, records, &mut scratch[0..area]);
-    zero(&mut scratch[0..40000]);
+    scratch[0..40000].fill(0);
     r
 }
 
@@ -266,12 +223,9 @@ pub fn read(
     text: &mut [u8],
     records: &mut [u64],
     scratch: &mut [u8],
-) -> Outcome
+) -> Result<Label, Refusal>
     ensures { ReadsNumbers grid.now size text.old records.old scratch.old result text.new records.new scratch.new }
 {
-    let e = check::check_first(grid, size, scratch.len());
-    match e {
-        Early::Fine(ver) => read_checked(grid, ver, text, records, scratch),
-        Early::Refused(f) => Outcome::Refused(f),
-    }
+    let ver = check::check_first(grid, size, scratch.len())?;
+    read_checked(grid, ver, text, records, scratch)
 }

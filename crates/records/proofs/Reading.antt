@@ -16,8 +16,7 @@ use Rattle.standard.specs.Read.{Read, refuse_to, characters, records_from, writt
 use Rattle.laws.specs.Lists.{get_d_tabulate, is_tabulate}
 use Rattle.segments.specs.Records.{part_of as part_from, part_at, parts_of, parts_length}
 use Rattle.parser.specs.Few.{few_records}
-use Rattle.reader.specs.declared.Outcome.{Outcome}
-use Rattle.reader.specs.Answers.{read_of}
+use Rattle.reader.specs.Answers.{Outcome, read_of}
 use Rattle.reader.specs.Labels.{Proper, proper}
 use Rattle.reader.specs.Redraw.{records_length}
 use Rattle.records.specs.declared.Record.{Record}

@@ -6,8 +6,7 @@ use Rattle.standard.specs.Segments.{Part, Segment}
 use Rattle.standard.specs.Encode.{zeroed}
 use Rattle.standard.specs.Label.{Label}
 use Rattle.standard.specs.Read.{read_as, Read, characters, records_from, written, Reads}
-use Rattle.reader.specs.declared.Outcome.{Outcome}
-use Rattle.reader.specs.Answers.{answer_of, read_of}
+use Rattle.reader.specs.Answers.{Outcome, answer_of, read_of}
 use Rattle.reader.specs.Theorems.{read_unique, Accepts, accepts_only}
 use Rattle.reader.specs.Redraw.{records_length}
 use Rattle.records.specs.declared.Record.{Record}

@@ -11,8 +11,7 @@ use Rattle.standard.specs.Plan.{Refusal, refusal}
 use Rattle.standard.specs.Encode.{zeroed}
 use Rattle.standard.specs.Label.{Label}
 use Rattle.standard.specs.Read.{unread, Read, characters, records_from, written, labelled, shown, none as shows_none, Reads, refuses, looks}
-use Rattle.reader.specs.declared.Outcome.{Outcome}
-use Rattle.reader.specs.Answers.{answer_of, read_of}
+use Rattle.reader.specs.Answers.{Outcome, answer_of, read_of}
 use Rattle.reader.specs.Redraw.{records_length}
 use Rattle.records.specs.declared.Record.{Record}
 use Rattle.records.specs.Records.{none, part_of, parts}

@@ -1,7 +1,7 @@
 -- What the core reads into numbers, and the records that are packed from them.
 -- Assumes nothing.
-use Prim.Native.Nat.{ℕ, ◌-◌, ◌*◌, ◌≤◌, min}
-use Rattle.std.specs.Prelude.{true, false, ◌≡◌, refl, ltb, take}
+use Prim.Native.Nat.{ℕ, ◌*◌, ◌≤◌, min}
+use Rattle.std.specs.Prelude.{true, false, ◌≡◌, refl, ltb, take, Ok, Err}
 use mathlib.Core.List.{List, ◌++◌}
 use Rattle.std.proofs.Common.{sym, ◌∙◌, subst, arith, length-take-le, take_at}
 use Rattle.std.proofs.Math.Path.{ap}
@@ -10,50 +10,38 @@ use Rattle.standard.specs.Segments.{Part}
 use Rattle.standard.specs.Plan.{Refusal, refusal}
 use Rattle.standard.specs.Label.{Label}
 use Rattle.standard.specs.Read.{unread, read_as, Read, refuse_to, characters, written, labelled, Reads}
-use Rattle.types.specs.declared.Version.{Version}
-use Rattle.types.specs.declared.QrCodeEcc.{QrCodeEcc}
-use Rattle.types.specs.declared.Mask.{Mask}
-use Rattle.reader.specs.declared.Refusal.{Refusal as Refuses}
-use Rattle.reader.specs.declared.Outcome.{Outcome}
-use Rattle.reader.specs.declared.Outcome.TheVariants.{Refused, Label as Labels}
-use Rattle.reader.specs.Answers.{answer_of, read_of}
+use Rattle.reader.specs.Answers.{Outcome, answer_of, read_of}
 use Rattle.reader.specs.Numbers.{ReadsNumbers}
 use Rattle.records.specs.declared.Record.{Record}
 use Rattle.records.specs.Records.{parts, packed}
 
 -- how many records an answer says to have written
 abbrev pub count : Outcome → ℕ
-count (Labels v l m n k) = n
-count (Refused e) = 0
+count (Ok a) = a.records
+count (Err e) = 0
 
 -- the core reads into the numbers of as many records as have room, and of at most 2,048
 abbrev pub ReadsIn : List ℕ → ℕ → List ℕ → ℕ → List ℕ → List ℕ → Outcome → List ℕ → List ℕ → List ℕ → Type 0
 ReadsIn g s text room ns scratch r o ns' z = ReadsNumbers g s text (take (4 * min room 2048) ns) scratch r o (take (4 * min room 2048) ns') z
 
 -- the numbers as the code cuts them off and puts them back
-pub part_read : (g : List ℕ) (s : ℕ) (text : List ℕ) (room : ℕ) (ns scratch : List ℕ) (r : Outcome) (o w z : List ℕ) (k : ℕ) → k ≡ min room 2048 → length w ≡ length (take (4 * k - 0) ns) → 4 * min room 2048 ≤ length ns
-    → ReadsNumbers g s text (take (4 * k - 0) ns) scratch r o w z → ReadsIn g s text room ns scratch r o (w ++ drop (4 * k - 0) ns) z
+pub part_read : (g : List ℕ) (s : ℕ) (text : List ℕ) (room : ℕ) (ns scratch : List ℕ) (r : Outcome) (o w z : List ℕ) (k : ℕ) → k ≡ min room 2048 → length w ≡ length (take (4 * k) ns) → 4 * min room 2048 ≤ length ns
+    → ReadsNumbers g s text (take (4 * k) ns) scratch r o w z → ReadsIn g s text room ns scratch r o (w ++ drop (4 * k) ns) z
 part_read g s text room ns scratch r o w z k e lw long f =
-    let c : 4 * k - 0 ≡ 4 * min room 2048 = omega arith in
+    let c : 4 * k ≡ 4 * min room 2048 = omega arith in
     let full : length w ≡ 4 * min room 2048 = lw ∙ ap (λ (i : ℕ). length (take i ns)) c ∙ length-take-le (4 * min room 2048) ns (omega arith) in
-    let back : take (4 * min room 2048) (w ++ drop (4 * k - 0) ns) ≡ w = take_at w (drop (4 * k - 0) ns) (4 * min room 2048) full in
+    let back : take (4 * min room 2048) (w ++ drop (4 * k) ns) ≡ w = take_at w (drop (4 * k) ns) (4 * min room 2048) full in
     subst (λ (q : List ℕ). ReadsNumbers g s text (take (4 * min room 2048) ns) scratch r o q z) (sym back) (subst (λ (i : ℕ). ReadsNumbers g s text (take i ns) scratch r o w z) c f)
 
 -- ---- the parts of an answer
 
-pub count_label : (r : Outcome) (v : Version) (l : QrCodeEcc) (m : Mask) (n k : ℕ) → r ≡ Labels v l m n k → n ≡ count r
-count_label r v l m n k e = sym (ap count e)
-
-pub count_refused : (r : Outcome) (f : Refuses) → r ≡ Refused f → 0 ≡ count r
-count_refused r f e = sym (ap count e)
-
 pub count_none : (r : Outcome) (e : Refusal) → answer_of r ≡ unread e → count r ≡ 0
-count_none (Refused f) e q = refl
-count_none (Labels v l m n k) e q = absurd (let z : ◌≡◌ {A = ℕ} 0 1 = cc in omega arith)
+count_none (Err f) e q = refl
+count_none (Ok a) e q = absurd (let z : ◌≡◌ {A = ℕ} 0 1 = cc in omega arith)
 
 count_some : (r : Outcome) (v l m n k : ℕ) → answer_of r ≡ read_as v l m n k → count r ≡ n
-count_some (Refused f) v l m n k q = absurd (let z : ◌≡◌ {A = ℕ} 0 1 = cc in omega arith)
-count_some (Labels w j i c t) v l m n k q = same w.0 _ i.0 c t q
+count_some (Err f) v l m n k q = absurd (let z : ◌≡◌ {A = ℕ} 0 1 = cc in omega arith)
+count_some (Ok a) v l m n k q = same a.version.value _ a.mask.value a.records a.text q
   where
     same : (a b d c t : ℕ) → read_as a b d c t ≡ read_as v l m n k → c ≡ n
     same a b d c t q = cc

@@ -1,15 +1,15 @@
 -- Records of the code as records of the definition, and as numbers, four to each.
 -- Assumes nothing.
 use Prim.Native.Nat.{ℕ, zero, suc, ◌+◌, ◌*◌, ◌≤◌, ◌<◌}
-use Rattle.std.proofs.Common.{zero-add, add-one, ◌∙◌, length-set, take_all, take_at, drop-cons, length-take-le}
+use Rattle.std.proofs.Common.{zero-add, add-one, ◌∙◌, append_assoc, length-set, take_all, take_at, drop_at, drop-cons, length-take-le}
+use borrow.Rule.Slice.PartMut.{put_mid}
 use native.Mathlib.Omega.{arith}
 use Rattle.std.specs.Prelude.{◌≡◌, refl, get_or, set}
 use Rattle.std.proofs.Math.Path.{sym, ap, ap₂}
 use mathlib.Core.List.{List, [], ◌∷◌, ◌++◌, map}
 use Rattle.std.proofs.Math.ListN.{length, drop, take}
-use Rattle.std.proofs.lemmas.List.{length-map, set_at}
-use Rattle.std.proofs.lemmas.List.Edits.{sets}
-use Rattle.std.proofs.Math.Seq.{sets-eq, take-add, drop-nil, drop-append-add, drop-drop, length_front, append_snoc}
+use Rattle.std.proofs.lemmas.List.{length-map, set_at, set-append_left, take-append-drop}
+use Rattle.std.proofs.Math.Seq.{take-add, drop-nil, drop-drop, length_front, append_snoc}
 use Rattle.standard.specs.Numbers.{tabulate}
 use Rattle.standard.specs.Segments.{Part}
 use Rattle.laws.specs.Lists.{length_tabulate, from_append}
@@ -29,23 +29,10 @@ abbrev pub parts : List Record → List Part
 parts rs = map part_of rs
 
 -- the four numbers of a record
-abbrev fields : Record → List ℕ
+abbrev pub fields : Record → List ℕ
 fields r = r.kind ∷ r.start ∷ r.length ∷ r.assign ∷ []
 
 -- ---- records to numbers
-
--- the numbers of record i are stored
-unfoldable pub put_at : List ℕ → ℕ → Record → List ℕ
-put_at l i r = sets l (4 * i) (fields r)
-
-pub put_four : (l : List ℕ) (i : ℕ) (r : Record)
-    → set (set (set (set l (4 * i) r.kind) (4 * i + 1) r.start) (4 * i + 2) r.length) (4 * i + 3) r.assign ≡ put_at l i r
-unfolding put_at
-put_four l i r =
-    let a : 4 * i + 1 ≡ suc (4 * i) = omega arith in
-    let b : 4 * i + 2 ≡ suc (suc (4 * i)) = omega arith in
-    let c : 4 * i + 3 ≡ suc (suc (suc (4 * i))) = omega arith in
-    rw (a, b, c)
 
 -- the numbers of the first n records are written from the start on
 unfoldable pub unpacked : ℕ → List Record → List ℕ → List ℕ
@@ -74,23 +61,21 @@ module _ (rs : List Record) (l : List ℕ) (room : 4 * length rs ≤ length l) w
   unfolding unpacked
   length_unpacked i h = length_front l (take (4 * i) (numbers_of (parts rs))) (4 * i) (head_long i h ∙ sym (length-take-le (4 * i) l (omega arith)))
 
-  pub more_unpacked : (i : ℕ) → i < length rs → put_at (unpacked i rs l) i (get_or rs i none) ≡ unpacked (i + 1) rs l
-  unfolding unpacked put_at
-  more_unpacked i h =
+  -- k numbers, those of record i, are written in their place
+  pub more_unpacked : (i k : ℕ) (f : List ℕ) → i < length rs → k ≡ 4 → f ≡ fields (get_or rs i none) → put_mid (4 * i) k (unpacked i rs l) f ≡ unpacked (i + 1) rs l
+  unfolding unpacked
+  more_unpacked i k f h ek ef =
       let ns : List ℕ = numbers_of (parts rs) in
       let p : List ℕ = take (4 * i) ns in
       let u : List ℕ = p ++ drop (4 * i) l in
-      let f : List ℕ = fields (get_or rs i none) in
       let long : length p ≡ 4 * i = head_long i (omega arith) in
-      let whole : length u ≡ length l = length_front l p (4 * i) (long ∙ sym (length-take-le (4 * i) l (omega arith))) in
-      let here : take 4 (drop (4 * i) ns) ≡ f = ap (take 4) (numbers_drop rs i ∙ ap (λ (x : List Record). numbers_of (parts x)) (drop-cons rs i none h)) in
+      let here : take 4 (drop (4 * i) ns) ≡ f = ap (take 4) (numbers_drop rs i ∙ ap (λ (x : List Record). numbers_of (parts x)) (drop-cons rs i none h)) ∙ sym ef in
       let four : 4 * (i + 1) ≡ 4 * i + 4 = omega arith in
-      let tail : drop (4 * i + 4) u ≡ drop (4 * (i + 1)) l =
-      ap (λ (k : ℕ). drop (k + 4) u) (sym long) ∙ drop-append-add p (drop (4 * i) l) 4 ∙ drop-drop 4 (4 * i) l ∙ ap (λ (k : ℕ). drop k l) (sym four) in
-      let front : take (4 * (i + 1)) ns ≡ p ++ f = ap (λ (k : ℕ). take k ns) four ∙ take-add (4 * i) 4 ns ∙ ap (λ (x : List ℕ). p ++ x) here in
-      sets-eq f u (4 * i) (omega arith)
-      ∙ ap₂ (λ (x y : List ℕ). x ++ f ++ y) (take_at p (drop (4 * i) l) (4 * i) long) tail
-      ∙ ap (λ (x : List ℕ). x ++ drop (4 * (i + 1)) l) (sym front)
+      let tail : drop k (drop (4 * i) u) ≡ drop (4 * (i + 1)) l =
+      ap₂ (λ (j : ℕ) (x : List ℕ). drop j x) ek (drop_at p (drop (4 * i) l) (4 * i) long) ∙ drop-drop 4 (4 * i) l ∙ ap (λ (j : ℕ). drop j l) (sym four) in
+      let front : take (4 * (i + 1)) ns ≡ p ++ f = ap (λ (j : ℕ). take j ns) four ∙ take-add (4 * i) 4 ns ∙ ap (λ (x : List ℕ). p ++ x) here in
+      ap₂ (λ (x y : List ℕ). x ++ (f ++ y)) (take_at p (drop (4 * i) l) (4 * i) long) tail
+      ∙ rw (front, append_assoc)
 
 -- THE LAW: the numbers that are written stand for the records
 pub unpacked_parts : (rs : List Record) (l : List ℕ) → parts_of (take (4 * length rs) (unpacked (length rs) rs l)) ≡ parts rs
@@ -122,6 +107,19 @@ pub length_packed : (ns : List ℕ) (rs : List Record) (i : ℕ) → length (pac
 unfolding packed
 length_packed ns rs zero = refl
 length_packed ns rs (suc i) = length-set (packed i ns rs) i (record_at ns i) ∙ length_packed ns rs i
+
+-- a part of the records is stored, and the others stay
+packed_append : (ns : List ℕ) (rs qs : List Record) (i : ℕ) → i ≤ length rs → packed i ns (rs ++ qs) ≡ packed i ns rs ++ qs
+unfolding packed
+packed_append ns rs qs zero h = refl
+packed_append ns rs qs (suc i) h =
+    ap (λ (l : List Record). set l i (record_at ns i)) (packed_append ns rs qs i (omega arith))
+    ∙ set-append_left (packed i ns rs) qs i (record_at ns i) (omega (arith, length_packed ns rs i))
+
+pub packed_part : (n : ℕ) (ns : List ℕ) (rs : List Record) → n ≤ length rs → packed (length (take n rs)) ns (take n rs) ++ drop n rs ≡ packed n ns rs
+packed_part n ns rs h =
+    sym (packed_append ns (take n rs) (drop n rs) (length (take n rs)) (omega arith))
+    ∙ ap₂ (λ (k : ℕ) (l : List Record). packed k ns l) (length-take-le n rs h) (take-append-drop n rs)
 
 parts_set : (rs : List Record) (i : ℕ) (r : Record) → parts (set rs i r) ≡ set (parts rs) i (part_of r)
 parts_set [] i r = refl

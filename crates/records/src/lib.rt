@@ -1,18 +1,16 @@
 // The entries over lent slices of segment records. The work is done on numbers, four to a record; what is here unpacks and packs.
-// Functions with a slice of records hold nothing but calls, and one loop each.
 #![tactic(auto)]
 
-ghost use Rattle.std.specs.Prelude.{◌≡◌, ◌+◌, ◌*◌, ◌≤◌, min, length, take};
-ghost use Rattle.standard.specs.Encode.{encode, refused};
+ghost use Rattle.std.specs.Prelude.{◌≡◌, ◌*◌, ◌≤◌, min, length};
+ghost use Rattle.standard.specs.Encode.{encode};
 ghost use Rattle.standard.specs.Read.{Reads};
-ghost use Rattle.segments.specs.Records.{parts_of};
+ghost use Rattle.types.specs.Numbers.{level_of};
+ghost use Rattle.types.specs.Masks.{mask_number};
 ghost use Rattle.encoder.specs.Answers.{answer_of};
 ghost use Rattle.reader.specs.Answers.{read_of};
-ghost use Rattle.records.specs.Records.{parts, put_at, unpacked, record_at, packed};
-ghost use Rattle.records.specs.Encoded.{early};
-ghost use Rattle.records.specs.Reading.{ReadsIn, count};
+ghost use Rattle.records.specs.Records.{fields, parts, unpacked, record_at, packed};
 
-use encoder::{Outcome, Refusal};
+use encoder::{Label, Refusal, Settings};
 
 // A segment record: kind 0 Numeric, 1 Alphanumeric and 2 Byte name a part of one lent text, with assign 0;
 // kind 3 is ECI, with start and length 0.
@@ -25,86 +23,44 @@ pub struct Record {
     pub assign: u64,
 }
 
-/*---- Records to numbers ----*/
+impl From<Record> for [u64; 4] {
+    ghost from_gives = { λ r numbers. numbers ≡ fields r };
 
-// Stores the four numbers of record i.
-fn put(numbers: &mut [u64], i: usize, r: Record)
-    requires { 4 * i + 4 ≤ length numbers.old }
-    ensures { numbers.new ≡ put_at numbers.old i r }
-{
-    let k = 4 * i;
-    numbers[k] = r.kind;
-    numbers[k + 1] = r.start;
-    numbers[k + 2] = r.length;
-    numbers[k + 3] = r.assign;
+    // The numbers of a record, in the order in which the encoder takes them.
+    fn from(r: Record) -> [u64; 4] {
+        [r.kind, r.start, r.length, r.assign]
+    }
 }
+
+/*---- Records to numbers ----*/
 
 // Writes the numbers of all records, from the start on.
 fn unpack(records: &[Record], numbers: &mut [u64])
     requires { 4 * length records.now ≤ length numbers.old }
     ensures { numbers.new ≡ unpacked (length records.now) records.now numbers.old }
 {
-    let mut i: usize = 0;
-    while i < records.len() {
-        put(numbers, i, records[i]);
-        i += 1;
+    for (i, r) in records.iter().enumerate() {
+        let four = <[u64; 4]>::from(*r);
+        numbers[4 * i..4 * i + 4].copy_from_slice(&four);
     }
 }
 
-// The entry on numbers: those of the first n records.
-fn encode_numbers(
+// Encodes records by way of an array of N numbers.
+fn encode_in<const N: usize>(
     text: &[u8],
-    numbers: &[u64],
-    n: usize,
-    level: u8,
-    minversion: u8,
-    maxversion: u8,
-    mask: u8,
-    boostecl: bool,
+    records: &[Record],
+    settings: Settings,
     grid: &mut [u8],
     scratch: &mut [u8],
-) -> Outcome
-    requires { 4 * n ≤ length numbers.now }
-    ensures { record { answer = answer_of result; grid = grid.new; scratch = scratch.new } ≡ encode level minversion maxversion mask boostecl text.now (parts_of (take (4 * n) numbers.now)) grid.old scratch.old }
+) -> Result<Label, Refusal>
+    requires small { N ≤ 8192 }
+    requires room { 4 * length records.now ≤ N }
+    ensures { record { answer = answer_of result; grid = grid.new; scratch = scratch.new } ≡ encode (level_of settings.level) settings.minversion.value settings.maxversion.value (mask_number settings.mask) settings.boostecl text.now (parts records.now) grid.old scratch.old }
 {
-    let end = 4 * n;
-    encoder::encode_segments_advanced(
-        text,
-        &numbers[0..end],
-        level,
-        minversion,
-        maxversion,
-        mask,
-        boostecl,
-        grid,
-        scratch,
-    )
-}
-
-// The refusal of more records than there may be: 1, 2 and 3 go before it.
-fn refuse(level: u8, minversion: u8, maxversion: u8, mask: u8, n: usize) -> Outcome
-    ensures { answer_of result ≡ refused (early level minversion maxversion mask n) }
-{
-    if 3 < level {
-        return Outcome::Refused(Refusal::Level(level));
-    }
-    let versions = Refusal::Versions {
-        first: minversion,
-        last: maxversion,
-    };
-    if minversion < 1 {
-        return Outcome::Refused(versions);
-    }
-    if maxversion < minversion {
-        return Outcome::Refused(versions);
-    }
-    if 40 < maxversion {
-        return Outcome::Refused(versions);
-    }
-    if 8 < mask {
-        return Outcome::Refused(Refusal::MaskNumber(mask));
-    }
-    Outcome::Refused(Refusal::Records(n))
+    let mut numbers = [0u64; N];
+    unpack(records, &mut numbers);
+    let end = 4 * records.len();
+    encoder::encode_records(text, &numbers[..end], settings, grid, scratch)
 }
 
 // Returns a label of the given records over one text, with the given encoding parameters.
@@ -121,95 +77,55 @@ pub fn encode_segments_advanced(
     boostecl: bool,
     grid: &mut [u8],
     scratch: &mut [u8],
-) -> Outcome
+) -> Result<Label, Refusal>
     ensures { record { answer = answer_of result; grid = grid.new; scratch = scratch.new } ≡ encode level minversion maxversion mask boostecl text.now (parts records.now) grid.old scratch.old }
 {
+    let settings = Settings::new(level, minversion, maxversion, mask, boostecl)?;
     let n = records.len();
     if n <= 128 {
-        let mut numbers: [u64; 512] = [0; 512];
-        unpack(records, &mut numbers);
-        return encode_numbers(
-            text, &numbers, n, level, minversion, maxversion, mask, boostecl, grid, scratch,
-        );
+        encode_in::<512>(text, records, settings, grid, scratch)
+    } else if n <= 2048 {
+        encode_in::<8192>(text, records, settings, grid, scratch)
+    } else {
+        Err(Refusal::Records(n))
     }
-    if n <= 2048 {
-        let mut numbers: [u64; 8192] = [0; 8192];
-        unpack(records, &mut numbers);
-        return encode_numbers(
-            text, &numbers, n, level, minversion, maxversion, mask, boostecl, grid, scratch,
-        );
-    }
-    refuse(level, minversion, maxversion, mask, n)
 }
 
 /*---- Numbers to records ----*/
 
-// Record i of the numbers.
-fn make(numbers: &[u64], i: usize) -> Record
-    requires { 4 * i + 4 ≤ length numbers.now }
-    ensures { result ≡ record_at numbers.now i }
+// Writes as many records of the numbers as there is room for, from the start on.
+fn pack(numbers: &[u64], records: &mut [Record])
+    requires { 4 * length records.old ≤ length numbers.now }
+    ensures { records.new ≡ packed (length records.old) numbers.now records.old }
 {
-    let k = 4 * i;
-    Record {
-        kind: numbers[k],
-        start: numbers[k + 1],
-        length: numbers[k + 2],
-        assign: numbers[k + 3],
+    for (i, r) in records.iter_mut().enumerate() {
+        let k = 4 * i;
+        *r = Record {
+            kind: numbers[k],
+            start: numbers[k + 1],
+            length: numbers[k + 2],
+            assign: numbers[k + 3],
+        };
     }
 }
 
-// Writes the first n records of the numbers, from the start on.
-fn pack(numbers: &[u64], n: usize, records: &mut [Record])
-    requires { (4 * n ≤ length numbers.now) × (n ≤ length records.old) }
-    ensures { records.new ≡ packed n numbers.now records.old }
-{
-    let mut i: usize = 0;
-    while i < n {
-        records[i] = make(numbers, i);
-        i += 1;
-    }
-}
-
-// The least of room and 2,048: no label has more records.
-fn at_most(room: usize) -> usize
-    ensures { result ≡ min room 2048 }
-{
-    if room < 2048 {
-        return room;
-    }
-    2048
-}
-
-// Reads into numbers, where so many records have room.
-fn read_numbers(
+// Reads by way of an array of N numbers. No label has more than 2,048 records.
+fn read_in<const N: usize>(
     grid: &[u8],
     size: usize,
     text: &mut [u8],
-    room: usize,
-    numbers: &mut [u64],
+    records: &mut [Record],
     scratch: &mut [u8],
-) -> reader::Outcome
-    requires { 4 * min room 2048 ≤ length numbers.old }
-    ensures { ReadsIn grid.now size text.old room numbers.old scratch.old result text.new numbers.new scratch.new }
+) -> Result<reader::Label, reader::Refusal>
+    requires small { N ≤ 8192 }
+    requires room { 4 * min (length records.old) 2048 ≤ N }
+    ensures read { Reads grid.now size text.old (parts records.old) scratch.old (read_of result text.new (parts records.new) scratch.new) }
 {
-    let end = 4 * at_most(room);
-    reader::read(grid, size, text, &mut numbers[0..end], scratch)
-}
-
-// How many records an answer says to have written.
-fn written(r: reader::Outcome) -> usize
-    ensures { result ≡ count r }
-{
-    match r {
-        reader::Outcome::Label {
-            version,
-            level,
-            mask,
-            records,
-            text,
-        } => records,
-        reader::Outcome::Refused(e) => 0,
-    }
+    let mut numbers = [0u64; N];
+    let end = 4 * records.len().min(2048);
+    let label = reader::read(grid, size, text, &mut numbers[..end], scratch)?;
+    pack(&numbers, &mut records[..label.records]);
+    Ok(label)
 }
 
 // Reads the label that a grid shows: its characters into text and its records into records, from the start of both on.
@@ -220,18 +136,12 @@ pub fn read(
     text: &mut [u8],
     records: &mut [Record],
     scratch: &mut [u8],
-) -> reader::Outcome
+) -> Result<reader::Label, reader::Refusal>
     ensures { Reads grid.now size text.old (parts records.old) scratch.old (read_of result text.new (parts records.new) scratch.new) }
 {
-    let n = records.len();
-    if n <= 128 {
-        let mut numbers: [u64; 512] = [0; 512];
-        let r = read_numbers(grid, size, text, n, &mut numbers, scratch);
-        pack(&numbers, written(r), records);
-        return r;
+    if records.len() <= 128 {
+        read_in::<512>(grid, size, text, records, scratch)
+    } else {
+        read_in::<8192>(grid, size, text, records, scratch)
     }
-    let mut numbers: [u64; 8192] = [0; 8192];
-    let r = read_numbers(grid, size, text, n, &mut numbers, scratch);
-    pack(&numbers, written(r), records);
-    r
 }

@@ -1,14 +1,15 @@
 -- What follows the segments: a terminator, zero bits up to a byte, and pad bytes.
 -- Assumes nothing.
-use Rattle.std.specs.Prelude.{◌≡◌, ℕ, ◌+◌, ◌-◌, ◌*◌, ◌%◌, ◌^◌, ◌<◌, ◌≤◌, min, List, ◌++◌, length, take, set, replicate, ◌≢◌, slice_index_or, slice_set}
-use Rattle.std.proofs.Common.{sym, ap₂, ◌∙◌, append-nil, append_assoc, arith, add-one, eq-eqb, ne_eqb, length-append, drop_of_length-le, take_all, length-take-le}
+use Rattle.std.specs.Prelude.{◌≡◌, ℕ, ◌+◌, ◌-◌, ◌*◌, ◌%◌, ◌^◌, ◌<◌, ◌≤◌, min, List, ◌++◌, length, take, get_or, replicate, ◌≢◌, refl}
+use Rattle.std.proofs.Common.{sym, ap₂, ◌∙◌, append-nil, append_assoc, arith, eq-eqb, ne_eqb, length-append, drop_of_length-le, take_all, length-take-le}
 use Rattle.std.proofs.Math.Path.{ap}
 use Rattle.std.proofs.lemmas.List.{length-replicate}
-use Rattle.std.proofs.Math.Seq.{paste, paste-zero, paste-suc}
+use Rattle.std.proofs.lemmas.Slice.{put_mid-paste}
+use borrow.Rule.Slice.PartMut.{put_mid}
 use Rattle.standard.specs.Numbers.{tabulate}
 use Rattle.standard.specs.Bits.{bits}
 use Rattle.standard.specs.Codewords.{terminated, filled, pad_byte, padded}
-use Rattle.laws.specs.Lists.{length_tabulate, get_d_tabulate, length_bits}
+use Rattle.laws.specs.Lists.{length_tabulate, is_tabulate, length_bits}
 use Rattle.bits.specs.Bytes.{zero_bits}
 use Rattle.bits.specs.Appended.{Free, Appended, first_free, second_free, both_done}
 
@@ -49,7 +50,10 @@ end_length room n =
 
 -- ---- appended in two fields
 
-module _ (buf : List ℕ) (at room t : ℕ) (f : Free buf at (end_bits room at)) (et : t ≡ end_width room at) where
+module _ (buf : List ℕ) (at room t : ℕ) (f : Free buf at (end_bits room at)) (em : t ≡ min (room - at) 4) where
+  et : t ≡ end_width room at
+  et = omega arith
+
   parts : end_bits room at ≡ bits t 0 ++ replicate (fill_width (at + t)) 0
   unfolding end_bits
   parts = ap (λ (k : ℕ). replicate k 0 ++ replicate (fill_width (at + k)) 0) (sym et) ∙ ap (λ (l : List ℕ). l ++ replicate (fill_width (at + t)) 0) (sym (zero_bits t))
@@ -60,11 +64,14 @@ module _ (buf : List ℕ) (at room t : ℕ) (f : Free buf at (end_bits room at))
   pub end_32 : t ≤ 32
   end_32 = omega arith
 
-  module _ (new : List ℕ) (p w r : ℕ) (h : Appended buf new at p (bits t 0)) (ew : (r + p) % 2 ^ 64 ≡ 0) (er : w ≡ r % 8) where
+  module _ (new : List ℕ) (p w : ℕ) (h : Appended buf new at p (bits t 0)) (low : p < 2 ^ 64) (ew : w ≡ (0 + (2 ^ 64 - p)) % 2 ^ 64 % 8) where
+    rest_is : w ≡ fill_width p
+    rest_is = ew ∙ wrapped_fill ((0 + (2 ^ 64 - p)) % 2 ^ 64) p (omega arith)
+
     fill_is : replicate (fill_width (at + t)) 0 ≡ bits w 0
     fill_is =
         let e : p ≡ at + t = h.next ∙ ap (λ (k : ℕ). at + k) (length_bits t 0) in
-        ap (λ (k : ℕ). replicate (fill_width k) 0) (sym e) ∙ ap (λ (k : ℕ). replicate k 0) (sym (er ∙ wrapped_fill r p ew)) ∙ sym (zero_bits w)
+        ap (λ (k : ℕ). replicate (fill_width k) 0) (sym e) ∙ ap (λ (k : ℕ). replicate k 0) (sym rest_is) ∙ sym (zero_bits w)
 
     both : end_bits room at ≡ bits t 0 ++ bits w 0
     both = parts ∙ ap (λ (l : List ℕ). bits t 0 ++ l) fill_is
@@ -85,24 +92,13 @@ pub pad_odd : (i : ℕ) → (i % 2 ≢ 0) → 17 ≡ pad_byte i
 unfolding pad_byte
 pad_odd i h = simp (ne_eqb (i % 2) 0 h)
 
-pub pad_start : (o : List ℕ) (at n : ℕ) → o ≡ paste o at (tabulate n pad_byte) 0
-pad_start o at n = paste-zero o at (tabulate n pad_byte)
-
-pub pad_next : (o b : List ℕ) (at i n x : ℕ) → b ≡ paste o at (tabulate n pad_byte) i → x ≡ pad_byte i → at + n ≤ length o → i < n
-    → slice_set b (at + i) x ≡ paste o at (tabulate n pad_byte) (i + 1)
-pad_next o b at i n x inv ex h l =
-    let z : pad_byte i ≡ slice_index_or (tabulate n pad_byte) i 0 = sym (get_d_tabulate n pad_byte i 0 l) in
-    ap₂ (λ (y : List ℕ) (c : ℕ). set y (at + i) c) inv (ex ∙ z)
-    ∙ paste-suc o at (tabulate n pad_byte) i 0 (omega arith) (omega (arith, length_tabulate n pad_byte))
-    ∙ ap (paste o at (tabulate n pad_byte)) (sym (add-one i))
-
-pub pad_end : (o b : List ℕ) (at i n : ℕ) → b ≡ paste o at (tabulate n pad_byte) i → i ≤ n → n ≤ i → n ≡ length o - at → at ≤ length o → b ≡ padded (length o) (take at o)
+-- each byte of b, which is what stands from k on, is a pad byte
+pub pad_end : (o b : List ℕ) (k m : ℕ) → ((j : ℕ) → j < m → get_or b j 0 ≡ pad_byte j) → length b ≡ m → m ≡ length o - k → k ≤ length o → put_mid k m o b ≡ padded (length o) (take k o)
 unfolding padded
-pad_end o b at i n inv l h en ha =
-    let e : i ≡ n = omega arith in
-    let t : length (take at o) ≡ at = length-take-le at o ha in
-    let last : length o ≤ at + n = omega arith in
-    inv ∙ ap (paste o at (tabulate n pad_byte)) e
-    ∙ ap₂ (λ (x y : List ℕ). take at o ++ x ++ y) (take_all n (tabulate n pad_byte) (omega (arith, length_tabulate n pad_byte))) (drop_of_length-le o last)
-    ∙ append-nil (take at o ++ tabulate n pad_byte)
-    ∙ ap (λ (k : ℕ). take at o ++ tabulate k pad_byte) (en ∙ ap (λ (k : ℕ). length o - k) (sym t))
+pad_end o b k m each lb em h =
+    let t : length (take k o) ≡ k = length-take-le k o h in
+    let last : length o ≤ k + m = omega arith in
+    put_mid-paste k m o b (tabulate m pad_byte) m (is_tabulate 0 b m pad_byte lb each) refl (sym (length_tabulate m pad_byte))
+    ∙ ap₂ (λ (x y : List ℕ). take k o ++ x ++ y) (take_all m (tabulate m pad_byte) (omega (arith, length_tabulate m pad_byte))) (drop_of_length-le o last)
+    ∙ append-nil (take k o ++ tabulate m pad_byte)
+    ∙ ap (λ (n : ℕ). take k o ++ tabulate n pad_byte) (em ∙ ap (λ (n : ℕ). length o - n) (sym t))

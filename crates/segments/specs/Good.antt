@@ -1,7 +1,7 @@
 -- Laws that the proof of the record check cites: one for each way out of it. And what a good record means.
 -- Assumes nothing.
-use Rattle.std.specs.Prelude.{◌≡◌, ℕ, ◌+◌, ◌-◌, ◌*◌, ◌/◌, ◌^◌, ◌<◌, ◌≤◌, Bool, true, false, cond, ◌&&◌, T, List, length, take, drop, ◌==◌, ◌≢◌, nat_le, nat_lt, slice_index, slice_index_or, slice_range, refl}
-use Rattle.std.proofs.Common.{sym, ◌∙◌, subst, eqb→eq, ltb→lt, leb→le}
+use Rattle.std.specs.Prelude.{◌≡◌, ℕ, ◌+◌, ◌-◌, ◌^◌, ◌<◌, ◌≤◌, Bool, true, false, cond, ◌&&◌, T, List, [], length, take, drop, ◌==◌, ◌≢◌, nat_le, nat_lt, slice_index, refl}
+use Rattle.std.proofs.Common.{sym, ap₂, ◌∙◌, subst, eqb→eq, ltb→lt, leb→le}
 use Rattle.std.proofs.Math.Path.{ap}
 use native.Mathlib.Omega.{arith}
 use borrow.Author.Tests.{eqb-true, eq-eqb, ne_eqb, lt-ltb, le-ltb, le-leb, lt-leb}
@@ -10,9 +10,13 @@ use Rattle.standard.specs.Kinds.{allowed}
 use Rattle.standard.specs.Segments.{Part, Segment, segment_of, good_part, good_segment}
 use Rattle.laws.specs.Tests.{and_left, and_right, and_pair}
 use Rattle.segments.specs.Payload.{segment}
-use Rattle.segments.specs.Records.{part_of, part_at, parts_of, good_at}
+use Rattle.segments.specs.Records.{part_of, part_from}
 
 module _ (text : List ℕ) (k s n a : ℕ) where
+  pub eci_number : k ≡ 3 → s ≡ 0 → n ≡ 0 → nat_lt a 1_000_000 ≡ good_part text (part_of k s n a)
+  unfolding good_part
+  eci_number e q r = simp (eq-eqb k 3 e, eq-eqb s 0 q, eq-eqb n 0 r)
+
   pub eci_start : k ≡ 3 → (s ≢ 0) → false ≡ good_part text (part_of k s n a)
   unfolding good_part
   eci_start e h = simp (eq-eqb k 3 e, ne_eqb s 0 h)
@@ -21,39 +25,33 @@ module _ (text : List ℕ) (k s n a : ℕ) where
   unfolding good_part
   eci_length e q h = simp (eq-eqb k 3 e, eq-eqb s 0 q, ne_eqb n 0 h)
 
-  pub eci_number : k ≡ 3 → s ≡ 0 → n ≡ 0 → nat_lt a 1_000_000 ≡ good_part text (part_of k s n a)
+  pub bad_kind : (k ≢ 3) → 2 < k → false ≡ good_part text (part_of k s n a)
   unfolding good_part
-  eci_number e q r = simp (eq-eqb k 3 e, eq-eqb s 0 q, eq-eqb n 0 r)
+  bad_kind ne h = let l : 3 ≤ k = omega arith in simp (ne_eqb k 3 ne, le-ltb k 3 l)
 
-  module _ (ne : k ≡ 3 → ⊥) where
-    pub bad_kind : 3 < k → false ≡ good_part text (part_of k s n a)
+  module _ (j : ℕ) (is : j ≡ k) (low : j < 3) where
+    low_k : k < 3
+    low_k = omega arith
+
+    other : k ≡ 3 → ⊥
+    other e = omega (arith, low_k)
+
+    pub bad_assign : (a ≢ 0) → false ≡ good_part text (part_of k s n a)
     unfolding good_part
-    bad_kind h = let l : 3 ≤ k = omega arith in simp (ne_eqb k 3 ne, le-ltb k 3 l)
+    bad_assign h = simp (ne_eqb k 3 other, lt-ltb k 3 low_k, ne_eqb a 0 h)
 
-    module _ (le : k ≤ 3) where
-      kind_lt : k < 3
-      kind_lt = omega arith
+    pub bad_part : a ≡ 0 → length text < s + n → false ≡ good_part text (part_of k s n a)
+    unfolding good_part
+    bad_part za l = simp (ne_eqb k 3 other, lt-ltb k 3 low_k, eq-eqb a 0 za, lt-leb (s + n) (length text) l)
 
-      pub bad_assign : (a ≢ 0) → false ≡ good_part text (part_of k s n a)
-      unfolding good_part
-      bad_assign h = simp (ne_eqb k 3 ne, lt-ltb k 3 kind_lt, ne_eqb a 0 h)
-
-      module _ (za : a ≡ 0) where
-        pub bad_start : length text < s → false ≡ good_part text (part_of k s n a)
-        unfolding good_part
-        bad_start h = let l : length text < s + n = omega arith in simp (ne_eqb k 3 ne, lt-ltb k 3 kind_lt, eq-eqb a 0 za, lt-leb (s + n) (length text) l)
-
-        pub bad_length : s ≤ length text → length text - s < n → false ≡ good_part text (part_of k s n a)
-        unfolding good_part
-        bad_length q h = let l : length text < s + n = omega arith in simp (ne_eqb k 3 ne, lt-ltb k 3 kind_lt, eq-eqb a 0 za, lt-leb (s + n) (length text) l)
-
-        pub good_text : (b : Bool) → b ≡ every (allowed k) (take (s + n - s) (drop s text)) → s ≤ length text → n ≤ length text - s → b ≡ good_part text (part_of k s n a)
-        unfolding good_part
-        good_text b e q h =
-            let l : s + n ≤ length text = omega arith in
-            let d : s + n - s ≡ n = omega arith in
-            e ∙ ap (λ (i : ℕ). every (allowed k) (take i (drop s text))) d
-            ∙ simp (ne_eqb k 3 ne, lt-ltb k 3 kind_lt, eq-eqb a 0 za, le-leb (s + n) (length text) l)
+    pub good_text : (b : Bool) → b ≡ every (allowed j) (take (s + n - s) (drop s text)) → a ≡ 0 → s ≤ length text → n ≤ length text - s → b ≡ good_part text (part_of k s n a)
+    unfolding good_part
+    good_text b e za q h =
+        let l : s + n ≤ length text = omega arith in
+        let d : s + n - s ≡ n = omega arith in
+        e ∙ ap (λ (i : ℕ). every (allowed i) (take (s + n - s) (drop s text))) is
+        ∙ ap (λ (i : ℕ). every (allowed k) (take i (drop s text))) d
+        ∙ simp (ne_eqb k 3 other, lt-ltb k 3 low_k, eq-eqb a 0 za, le-leb (s + n) (length text) l)
 
 -- ---- what a good record says
 
@@ -61,6 +59,8 @@ pub record Numbers (text : List ℕ) (k s n a : ℕ) : Type 0 where
   pub kind : k ≤ 3
   pub inside : s + n ≤ length text
   pub assign : a < 1_000_000
+  pub none : k < 3 → a ≡ 0
+  pub empty : k ≡ 3 → n ≡ 0
 
 pub numbers : (text : List ℕ) (k s n a : ℕ) → T (good_part text (part_of k s n a)) → Numbers text k s n a
 unfolding good_part
@@ -77,13 +77,13 @@ numbers text k s n a t = go (k == 3) refl t
         let u = and_right (s == 0) (n == 0 && nat_lt a 1_000_000) t in
         let z : s ≡ 0 = eqb→eq s 0 (and_left (s == 0) (n == 0 && nat_lt a 1_000_000) t) in
         let y : n ≡ 0 = eqb→eq n 0 (and_left (n == 0) (nat_lt a 1_000_000) u) in
-        record { kind = omega arith; inside = omega arith; assign = ltb→lt a 1_000_000 (and_right (n == 0) (nat_lt a 1_000_000) u) }
+        record { kind = omega arith; inside = omega arith; assign = ltb→lt a 1_000_000 (and_right (n == 0) (nat_lt a 1_000_000) u); none = (λ h. absurd (omega arith)); empty = (λ _. y) }
     go false q t =
         let e : k < 3 = ltb→lt k 3 (and_left (nat_lt k 3) (a == 0 && (nat_le (s + n) (length text) && chars)) t) in
         let u = and_right (nat_lt k 3) (a == 0 && (nat_le (s + n) (length text) && chars)) t in
         let z : a ≡ 0 = eqb→eq a 0 (and_left (a == 0) (nat_le (s + n) (length text) && chars) u) in
         let y : s + n ≤ length text = leb→le (s + n) (length text) (and_left (nat_le (s + n) (length text)) chars (and_right (a == 0) (nat_le (s + n) (length text) && chars) u)) in
-        record { kind = omega arith; inside = y; assign = omega arith }
+        record { kind = omega arith; inside = y; assign = omega arith; none = (λ _. z); empty = (λ h. absurd (omega arith)) }
 
 -- a good record means a good segment
 pub good_segment_lem : (text : List ℕ) (r : Part) → T (good_part text r) → T (good_segment (segment_of text r))
@@ -110,35 +110,31 @@ good_segment_lem text r t = go (r.kind == 3) t
         (and_left (r.assign == 0) (nat_le (r.start + r.len) (length text) && every (allowed r.kind) cs) u)
         (and_right (nat_le (r.start + r.len) (length text)) (every (allowed r.kind) cs) w))
 
--- ---- a record that is read from the list of numbers
+-- ---- what the code's segment of a good record means
 
--- kind, start, end and assign are those of record i, which is a good one
-pub record Means (text ns : List ℕ) (i k s e a : ℕ) : Type 0 where
-  pub kind : k ≤ 3
-  pub low : s ≤ e
-  pub high : e ≤ length text
-  pub good : T (good_segment (segment k (slice_range text s e) a))
-  pub is : segment k (slice_range text s e) a ≡ segment_of text (part_at ns i)
+module _ (text ns : List ℕ) (t : T (good_part text (part_from ns))) where
+  numbers_at : Numbers text (slice_index ns 0) (slice_index ns 1) (slice_index ns 2) (slice_index ns 3)
+  numbers_at = numbers text (slice_index ns 0) (slice_index ns 1) (slice_index ns 2) (slice_index ns 3) t
 
-module _ (text ns : List ℕ) (i : ℕ) (t : T (every (good_part text) (parts_of ns))) (h : i < length ns / 4) where
-  pub numbers_at : Numbers text (slice_index ns (4 * i)) (slice_index ns (4 * i + 1)) (slice_index ns (4 * i + 2)) (slice_index ns (4 * i + 3))
-  numbers_at = numbers text (slice_index ns (4 * i)) (slice_index ns (4 * i + 1)) (slice_index ns (4 * i + 2)) (slice_index ns (4 * i + 3)) (good_at ns text i t h)
+  pub part_inside : slice_index ns 1 + slice_index ns 2 ≤ length text
+  part_inside = numbers_at.inside
 
-  pub kind_8 : slice_index_or ns (4 * i) 0 < 2 ^ 8
-  kind_8 = omega (arith, numbers_at.kind)
-
-  pub assign_32 : slice_index_or ns (4 * i + 3) 0 < 2 ^ 32
+  pub assign_32 : slice_index ns 3 < 2 ^ 32
   assign_32 = omega (arith, numbers_at.assign)
 
-  pub means_at : Means text ns i (slice_index ns (4 * i)) (slice_index ns (4 * i + 1)) (slice_index ns (4 * i + 1) + slice_index ns (4 * i + 2)) (slice_index ns (4 * i + 3))
-  means_at =
-      let d : slice_index_or ns (4 * i + 1) 0 + slice_index ns (4 * i + 2) - slice_index ns (4 * i + 1) ≡ slice_index_or ns (4 * i + 2) 0 = omega arith in
-      let is : segment (slice_index ns (4 * i)) (take (slice_index ns (4 * i + 1) + slice_index ns (4 * i + 2) - slice_index ns (4 * i + 1)) (drop (slice_index ns (4 * i + 1)) text)) (slice_index ns (4 * i + 3)) ≡ segment_of text (part_at ns i)
-      = ap (λ (n : ℕ). segment (slice_index ns (4 * i)) (take n (drop (slice_index ns (4 * i + 1)) text)) (slice_index ns (4 * i + 3))) d in
-      record {
-        kind = numbers_at.kind;
-        low = omega arith;
-        high = numbers_at.inside;
-        good = subst (λ (s : Segment). T (good_segment s)) (sym is) (good_segment_lem text (part_at ns i) (good_at ns text i t h));
-        is = is;
-      }
+  pub text_named : (k : ℕ) → k ≡ slice_index ns 0 → k < 3
+      → segment k (take (slice_index ns 1 + slice_index ns 2 - slice_index ns 1) (drop (slice_index ns 1) text)) 0 ≡ segment_of text (part_from ns)
+  text_named k e h =
+      let d : slice_index ns 1 + slice_index ns 2 - slice_index ns 1 ≡ slice_index ns 2 = omega arith in
+      let z : 0 ≡ slice_index ns 3 = sym (numbers_at.none (omega arith)) in
+      ap₂ (λ (j n : ℕ). segment j (take n (drop (slice_index ns 1) text)) 0) e d
+      ∙ ap (λ (a : ℕ). segment (slice_index ns 0) (take (slice_index ns 2) (drop (slice_index ns 1) text)) a) z
+
+  pub eci_named : 2 < slice_index ns 0 → segment 3 [] (slice_index ns 3) ≡ segment_of text (part_from ns)
+  eci_named h =
+      let e : slice_index ns 0 ≡ 3 = omega (arith, numbers_at.kind) in
+      ap₂ (λ (j n : ℕ). segment j (take n (drop (slice_index ns 1) text)) (slice_index ns 3)) (sym e) (sym (numbers_at.empty e))
+
+  -- it means a good segment
+  pub named_good : (s : Segment) → s ≡ segment_of text (part_from ns) → T (good_segment s)
+  named_good s e = subst (λ (g : Segment). T (good_segment g)) (sym e) (good_segment_lem text (part_from ns) t)

@@ -9,6 +9,7 @@ pub mod Groups
 pub mod Texts
 pub mod Records
 pub mod Good
+pub mod Meaning
 pub mod Sizes
 pub mod Fit
 pub mod Totals

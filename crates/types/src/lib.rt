@@ -1,10 +1,11 @@
 // The number types of the original, so that a mask can't be passed as a version, its levels and its modes.
 #![tactic(auto)]
 
-ghost use Rattle.std.specs.Prelude.{◌≡◌, ◌≤◌, option_map};
+ghost use Rattle.std.specs.Prelude.{◌≡◌, ◌≤◌, ◌<◌, option_map, MatchOption};
 ghost use Rattle.standard.specs.Format.{level_bits};
 ghost use Rattle.standard.specs.Kinds.{mode_bits, count_width};
 ghost use Rattle.types.specs.Numbers.{level_of, kind_of, text_kind_of, new_version, new_mask};
+ghost use Rattle.types.specs.Levels.{NamesLevel};
 
 // The error correction level in a QR Code symbol.
 #[derive(Clone, Copy, PartialEq, Eq)]
@@ -42,6 +43,27 @@ impl QrCodeEcc {
             QrCodeEcc::Medium => 0,
             QrCodeEcc::Quartile => 3,
             QrCodeEcc::High => 2,
+        }
+    }
+}
+
+// A number that is no level's.
+#[derive(Clone, Copy, PartialEq, Eq)]
+pub struct NoLevel(pub u8);
+
+impl TryFrom<u8> for QrCodeEcc {
+    type Error = NoLevel;
+
+    ghost try_from_gives = { NamesLevel };
+
+    // The level of a number in the range 0 to 3; there is none above.
+    fn try_from(n: u8) -> Result<QrCodeEcc, NoLevel> {
+        match n {
+            0 => Ok(QrCodeEcc::Low),
+            1 => Ok(QrCodeEcc::Medium),
+            2 => Ok(QrCodeEcc::Quartile),
+            3 => Ok(QrCodeEcc::High),
+            _ => Err(NoLevel(n)),
         }
     }
 }
@@ -100,6 +122,18 @@ pub enum TextKind {
 }
 
 impl TextKind {
+    // The kind with the given number; there is none above 2.
+    pub fn new(number: u64) -> Option<TextKind>
+        ensures { MatchOption result (2 < number) (λ kind. text_kind_of kind ≡ number) }
+    {
+        match number {
+            0 => Some(TextKind::Numeric),
+            1 => Some(TextKind::Alphanumeric),
+            2 => Some(TextKind::Byte),
+            _ => None,
+        }
+    }
+
     // Returns the number of the kind in a record.
     pub fn number(self) -> u8
         ensures { result ≡ text_kind_of self }
@@ -181,23 +215,6 @@ impl Mask {
     {
         self.value
     }
-}
-
-// The level of a number that is known to be one. (Where the number may be anything, a caller refuses it first.)
-pub fn level_at(n: u8) -> QrCodeEcc
-    requires { n ≤ 3 }
-    ensures { level_of result ≡ n }
-{
-    if n == 0 {
-        return QrCodeEcc::Low;
-    }
-    if n == 1 {
-        return QrCodeEcc::Medium;
-    }
-    if n == 2 {
-        return QrCodeEcc::Quartile;
-    }
-    QrCodeEcc::High
 }
 
 // The version of a number that is known to be one.

@@ -16,21 +16,21 @@ pub nonzero_rem-val : goal.nonzero_rem-val
 nonzero_rem-val c =
     let l = c.loop-left in
     let a = c.args in
-    let w = c.in_byte-w.result in
+    let w = c.min-w.result in
     power_some l.left w a.val (omega arith)
 
 pub overflow_cast-val : goal.overflow_cast-val
 overflow_cast-val c =
     let l = c.loop-left in
     let a = c.args in
-    let w = c.in_byte-w.result in
+    let w = c.min-w.result in
     record { fits = piece_byte l.left w a.val (omega arith) }
 
 pub put_bits-requires : goal.put_bits-requires
 put_bits-requires c =
     let l = c.loop-left in
     let a = c.args in
-    let w = c.in_byte-w.result in (
+    let w = c.min-w.result in (
       omega arith,
       omega arith,
       piece_lt l.left w a.val (omega arith),
@@ -41,14 +41,14 @@ pub overflow_add-p : goal.overflow_add-p
 overflow_add-p c =
     let l = c.loop-left in
     let a = c.args in
-    let w = c.in_byte-w.result in
+    let w = c.min-w.result in
     record { fits = piece_room a.buf.now l.buf a.at l.p a.len l.left w a.val c.requires.1 l.invariant.2 (omega arith) (omega arith) }
 
 pub loop-left-preserved : goal.loop-left-preserved
 loop-left-preserved c =
     let l = c.loop-left in
     let a = c.args in
-    let w = c.in_byte-w.result in (
+    let w = c.min-w.result in (
       omega arith,
       c.put_bits.auto.buf ∙ l.invariant.1,
       piece_next a.buf.now l.buf a.at l.p a.len l.left w a.val c.requires.1 l.invariant.2 (omega arith) (omega arith) _ c.put_bits.ensures,

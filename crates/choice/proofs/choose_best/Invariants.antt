@@ -1,6 +1,5 @@
--- `choice::choose_best` meets its contract.
+-- `choice::choose_best`: the best of the first i candidates is msk.
 -- Assumes nothing.
-use Prim.Native.Nat.{◌-◌, ◌≤◌}
 use Rattle.standard.specs.Sizes.{side}
 use Rattle.types.specs.Numbers.{level_of}
 use Rattle.packed.specs.Stored.{HeldRows, HeldColumns}
@@ -9,7 +8,4 @@ use Rattle.choice.proofs.choose_best.Given as goal
 
 abbrev pub invariant-loop-i : goal.invariant-loop-i
 invariant-loop-i l =
-    Scored l.ver.0 (level_of l.ecl) l.initial.grid l.grid l.i l.msk l.minpenalty × (l.i ≤ 8) × HeldRows (side l.ver.0) l.grid l.rows × HeldColumns (side l.ver.0) l.grid l.columns
-
-abbrev pub decreases-loop-i : goal.decreases-loop-i
-decreases-loop-i l = 8 - l.i
+    Scored l.ver.value (level_of l.ecl) l.fn.grid l.grid l.i l.msk.value l.minpenalty × HeldRows (side l.ver.value) l.grid l.rows × HeldColumns (side l.ver.value) l.grid l.columns

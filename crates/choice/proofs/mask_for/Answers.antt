@@ -1,11 +1,12 @@
 -- `choice::mask_for` meets its contract.
 -- Assumes nothing.
-use Rattle.choice.specs.Candidates.{named, automatic}
-use Rattle.std.proofs.Common.{rules}
+use mathlib.Core.Path.{refl}
+use native.Mathlib.Omega.{arith}
+use Rattle.choice.specs.Candidates.{named}
 use Rattle.choice.proofs.mask_for.Goals as goal
 
-pub returns-then-msk-lt8 : goal.returns-then-msk-lt8
-returns-then-msk-lt8 c = search (named, rules)
+pub returns-in-Some : goal.returns-in-Some
+returns-in-Some c = rw c.in-Some.is (named _ _ _ _ _ (omega arith) refl)
 
-pub returns : goal.returns
-returns c = search (automatic, rules)
+pub returns-in-None : goal.returns-in-None
+returns-in-None c = rw c.in-None.is c.choose_mask.ensures

@@ -8,26 +8,24 @@ use Rattle.reader.specs.Entry.{area_square, zeroed_all, zeroed_length, finds_zer
 use Rattle.reader.proofs.read_checked.Goals as goal
 
 pub overflow_mul-area : goal.overflow_mul-area
-overflow_mul-area c = record { fits = omega (arith, area_small _ _ c.size_of-size.ensures c.requires.version.0.1) }
+overflow_mul-area c = record { fits = omega (arith, area_small _ _ c.size_of-size.ensures c.args.ver.in_range.1) }
 
 pub slice_bounds-read_square-end : goal.slice_bounds-read_square-end
-slice_bounds-read_square-end c = omega (arith, area_small _ _ c.size_of-size.ensures c.requires.version.0.1)
+slice_bounds-read_square-end c = omega (arith, area_small _ _ c.size_of-size.ensures c.args.ver.in_range.1)
 
 pub read_square-r-requires : goal.read_square-r-requires
-read_square-r-requires c = record { square = c.requires.square; square_2 = area_square _ _ _ c.size_of-size.ensures c.requires.version.0.1 c.requires.version.1; version = (c.requires.version.0, c.requires.version.2) }
+read_square-r-requires c = record { grid = c.requires.grid; work = area_square _ _ _ c.size_of-size.ensures c.args.ver.in_range.1 c.requires.scratch; small = c.requires.small }
 
 pub shape_of-scratch : goal.shape_of-scratch
 shape_of-scratch c =
     let square = c.read_square-r in
-    let size = c.size_of-size in
     let scratch = c.args.scratch.now in
-    ap length (zeroed_all scratch square.new.work _ _ square.auto.work (area_small _ _ size.ensures c.requires.version.0.1) c.requires.version.1 c.zero.ensures)
-    ∙ zeroed_length scratch c.requires.version.1
+    ap length (zeroed_all scratch square.new.work _ _ square.auto.work (area_small _ _ c.size_of-size.ensures c.args.ver.in_range.1) c.requires.scratch (c.fill.ensures.after (λ y e. e)))
+    ∙ zeroed_length scratch c.requires.scratch
 
 pub returns : goal.returns
 returns c =
     let square = c.read_square-r in
-    let size = c.size_of-size in
     let scratch = c.args.scratch.now in
     finds_zeroed _ _ _ scratch _ _ _ _ square.ensures
-    (zeroed_all scratch square.new.work _ _ square.auto.work (area_small _ _ size.ensures c.requires.version.0.1) c.requires.version.1 c.zero.ensures)
+    (zeroed_all scratch square.new.work _ _ square.auto.work (area_small _ _ c.size_of-size.ensures c.args.ver.in_range.1) c.requires.scratch (c.fill.ensures.after (λ y e. e)))

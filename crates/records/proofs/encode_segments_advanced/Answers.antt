@@ -1,36 +1,16 @@
--- `records::encode_segments_advanced`: the numbers that are unpacked stand for the records; more records than there may be are refused early.
+-- `records::encode_segments_advanced`: more records than there may be are refused early.
 -- Assumes nothing.
-use Rattle.std.proofs.Common.{◌≡◌, ℕ, ◌*◌, List, length, take, ap, ◌∙◌}
 use Rattle.std.proofs.lemmas.List.{length-map}
-use Rattle.standard.specs.Segments.{Part}
-use Rattle.standard.specs.Encode.{encode}
-use Rattle.segments.specs.Records.{parts_of}
-use Rattle.encoder.specs.Answers.{answer_of}
-use Rattle.records.specs.declared.Record.{Record}
-use Rattle.records.specs.Records.{part_of, parts, unpacked, unpacked_parts}
-use Rattle.records.specs.Encoded.{refused_early}
+use Rattle.std.proofs.lemmas.Result.{err_from_is_err_and}
+use Rattle.encoder.specs.Entries.{asked_refused}
+use Rattle.records.specs.Records.{part_of}
+use Rattle.records.specs.Encoded.{too_many}
 use Rattle.records.proofs.encode_segments_advanced.Goals as goal
 
--- the numbers after `unpack`
-unpacked_are : (rs : List Record) (l m : List ℕ) → m ≡ unpacked (length rs) rs l → parts_of (take (4 * length rs) m) ≡ parts rs
-unpacked_are rs l m e = ap (λ (y : List ℕ). parts_of (take (4 * length rs) y)) e ∙ unpacked_parts rs l
+pub returns-in_err-settings : goal.returns-in_err-settings
+returns-in_err-settings c =
+    let p = err_from_is_err_and c.from_residual.result c.from_residual.ensures.1 in
+    rw (p.1, p.2) (asked_refused _ _ _ _ _ _ _ _ _ _ c.in_err-settings.ensures)
 
-pub returns-then-n-le128 : goal.returns-then-n-le128
-returns-then-n-le128 c =
-    let a = c.args in
-    c.encode_numbers.ensures
-    ∙ ap (λ (ps : List Part). encode a.level a.minversion a.maxversion a.mask a.boostecl a.text.now ps a.grid.now a.scratch.now)
-    (unpacked_are a.records.now _ c.unpack.new.numbers c.unpack.ensures)
-
-pub returns-then-n-le2048 : goal.returns-then-n-le2048
-returns-then-n-le2048 c =
-    let a = c.args in
-    c.encode_numbers-then-n-le2048.ensures
-    ∙ ap (λ (ps : List Part). encode a.level a.minversion a.maxversion a.mask a.boostecl a.text.now ps a.grid.now a.scratch.now)
-    (unpacked_are a.records.now _ c.unpack-then-n-le2048.new.numbers c.unpack-then-n-le2048.ensures)
-
-pub returns : goal.returns
-returns c =
-    let a = c.args in
-    refused_early a.level a.minversion a.maxversion a.mask a.boostecl a.text.now (parts a.records.now) a.grid.now a.scratch.now
-    (answer_of c.refuse.result) (length a.records.now) (length-map a.records.now part_of) c.if-n-le2048.false c.refuse.ensures
+pub returns-else-n-le2048 : goal.returns-else-n-le2048
+returns-else-n-le2048 c = too_many _ _ _ _ _ _ c.in_ok-settings.ensures _ _ _ _ _ (length-map c.args.records.now part_of) c.if-n-le2048.false

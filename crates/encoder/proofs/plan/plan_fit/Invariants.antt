@@ -1,13 +1,11 @@
--- `encoder::plan::plan_fit` meets its contract.
+-- `encoder::plan::plan_fit`: no version below v fits.
 -- Assumes nothing.
-use Prim.Native.Nat.{◌-◌}
 use Rattle.standard.specs.Segments.{segments_of}
+use Rattle.types.specs.Numbers.{level_of}
 use Rattle.segments.specs.Records.{parts_of}
 use Rattle.encoder.specs.Search.{Searched}
 use Rattle.encoder.proofs.plan.plan_fit.Given as goal
 
-abbrev pub invariant-loop-n : goal.invariant-loop-n
-invariant-loop-n l = Searched l.level l.minversion l.maxversion l.version (segments_of l.text (parts_of l.records))
-
-abbrev pub decreases-loop-n : goal.decreases-loop-n
-decreases-loop-n l = l.maxversion - l.version
+abbrev pub invariant-loop-v : goal.invariant-loop-v
+invariant-loop-v l =
+    Searched (level_of l.settings.level) l.settings.minversion.value l.settings.maxversion.value l.v (segments_of l.text (parts_of l.records))

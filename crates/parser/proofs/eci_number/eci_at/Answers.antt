@@ -1,20 +1,23 @@
 -- `parser::eci_number::eci_at` meets its contract.
 -- Assumes nothing.
-use Rattle.std.proofs.Common.{rules}
-use Rattle.parser.specs.CodeSteps.{eci_one, eci_other, eci_short, eci_three_lem, eci_two_lem}
+use native.Mathlib.Omega.{arith}
+use Rattle.std.proofs.lemmas.Result.{err_from_is_err_and}
+use Rattle.parser.specs.CodeSteps.{eci_short, eci_one, eci_two_lem, eci_three_lem, eci_other}
 use Rattle.parser.proofs.eci_number.eci_at.Goals as goal
 
-pub returns-then-total-at : goal.returns-then-total-at
-returns-then-total-at c = search (eci_short, rules)
+pub returns-in_err-x : goal.returns-in_err-x
+returns-in_err-x c =
+    let p = err_from_is_err_and c.from_residual.result c.from_residual.ensures.1 in
+    rw (p.1, p.2) (eci_short _ _ _ c.field_at.ensures _ c.in_err-x.was)
 
-pub returns-then-x-lt128 : goal.returns-then-x-lt128
-returns-then-x-lt128 c = search (eci_one, rules)
+pub returns-in-0-to-127 : goal.returns-in-0-to-127
+returns-in-0-to-127 c = eci_one _ _ _ c.field_at.ensures _ c.in_ok-x.was (omega arith)
 
-pub returns-then-x-lt192 : goal.returns-then-x-lt192
-returns-then-x-lt192 c = search (eci_two_lem, rules)
+pub returns-in-128-to-191 : goal.returns-in-128-to-191
+returns-in-128-to-191 c = eci_two_lem _ _ _ c.field_at.ensures _ _ c.in_ok-x.was (omega arith) (omega arith) c.eci_two.ensures
 
-pub returns-then-x-lt224 : goal.returns-then-x-lt224
-returns-then-x-lt224 c = search (eci_three_lem, rules)
+pub returns-in-192-to-223 : goal.returns-in-192-to-223
+returns-in-192-to-223 c = eci_three_lem _ _ _ c.field_at.ensures _ _ c.in_ok-x.was (omega arith) (omega arith) c.eci_three.ensures
 
-pub returns : goal.returns
-returns c = search (eci_other, rules)
+pub returns-in_default : goal.returns-in_default
+returns-in_default c = eci_other _ _ _ c.field_at.ensures _ c.in_ok-x.was (omega arith)

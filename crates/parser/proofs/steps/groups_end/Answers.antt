@@ -1,33 +1,29 @@
--- `parser::steps::groups_end` meets its contract.
+-- `parser::steps::groups_end` meets its contract: the groups that are left end where all of them end.
 -- Assumes nothing.
-use mathlib.Core.Path.{sym, ◌∙◌}
 use native.Mathlib.Omega.{arith}
-use Rattle.std.proofs.Common.{rules}
-use Rattle.standard.specs.Bits.{unpack}
-use Rattle.segments.specs.Groups.{width_32}
-use Rattle.parser.specs.Runs.{run_end}
-use Rattle.parser.specs.CodeRuns.{full_short, full_large, full_next, full_less}
+use Rattle.std.proofs.lemmas.Result.{err_from_is_err_and}
+use Rattle.parser.specs.CodeRuns.{left_small, runs_start, runs_cut, runs_next, runs_high, runs_last}
 use Rattle.parser.proofs.steps.groups_end.Goals as goal
 
-pub returns-then-total-next : goal.returns-then-total-next
-returns-then-total-next c = search (full_short, rules)
+pub loop-init : goal.loop-init
+loop-init c = (runs_start _ _ _ _ _, c.requires.1, omega arith)
 
-pub read_bits-x-requires : goal.read_bits-x-requires
-read_bits-x-requires c = search (width_32, rules)
+pub group_end-requires : goal.group_end-requires
+group_end-requires c = (omega arith, c.requires.0, c.loop.invariant.1)
 
-pub returns-then-limit-x : goal.returns-then-limit-x
-returns-then-limit-x c =
-    let l = c.loop-left in
-    let a = c.args in
-    full_large a.kind a.buf.now (run_end a.kind (unpack a.buf.now) a.count a.at a.count) l.p l.left c.size_of-m.result c.width_of-w.result
-    l.invariant.1 c.size_of-m.ensures c.width_of-w.ensures c.loop-left-test.true c.read_bits-x.result c.limit_of-limit.result c.read_bits-x.ensures c.limit_of-limit.ensures
-    (omega arith) (omega arith)
+pub returns-in_err-p : goal.returns-in_err-p
+returns-in_err-p c =
+    let p = err_from_is_err_and c.from_residual.result c.from_residual.ensures.1 in
+    rw (p.1, p.2) (runs_cut _ _ _ _ _ _ _ c.size_of-m.ensures c.loop.invariant.0 c.loop-test.true _ c.group_end.ensures _ c.in_err-p.was)
 
-pub loop-left-smaller : goal.loop-left-smaller
-loop-left-smaller c = search (full_less, rules)
+pub loop-preserved : goal.loop-preserved
+loop-preserved c =
+    let em = c.size_of-m.ensures in
+    let inv = c.loop.invariant.0 in
+    (runs_next _ _ _ _ _ _ _ em inv c.loop-test.true _ c.group_end.ensures _ c.in_ok-p.was, runs_high _ _ _ _ _ _ _ em inv c.loop-test.true _ c.group_end.ensures _ c.in_ok-p.was, omega arith)
 
-pub loop-left-preserved : goal.loop-left-preserved
-loop-left-preserved c = (search rules, search (full_next, rules))
+pub group_end-requires-2 : goal.group_end-requires-2
+group_end-requires-2 c = (omega (arith, left_small _ c.size_of-m.result c.args.count c.size_of-m.ensures), c.requires.0, c.loop.invariant.1)
 
 pub returns : goal.returns
-returns c = c.last_end.ensures ∙ sym c.loop-left.invariant.1
+returns c = runs_last _ _ _ _ _ _ _ c.size_of-m.ensures c.loop.invariant.0 c.loop.invariant.2 c.loop-test.false _ c.group_end-2.ensures

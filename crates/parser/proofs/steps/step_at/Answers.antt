@@ -1,35 +1,27 @@
 -- `parser::steps::step_at` meets its contract.
 -- Assumes nothing.
-use Rattle.std.proofs.Common.{rules}
-use Rattle.parser.specs.CodeSteps.{digits_16, pairs_16, bytes_16, step_short, step_none, step_digits, step_pairs, step_bytes, step_eci, step_other}
+use native.Mathlib.Omega.{arith}
+use Rattle.parser.specs.CodeSteps.{some_found, step_short, step_none, step_digits, step_pairs, step_bytes, step_eci, step_other}
 use Rattle.parser.proofs.steps.step_at.Goals as goal
 
-pub returns-then-total-at : goal.returns-then-total-at
-returns-then-total-at c = search (step_short, rules)
+pub returns-then-buf-at : goal.returns-then-buf-at
+returns-then-buf-at c = step_short _ _ _ c.if-buf-at.true
 
-pub returns-then-m-eq0 : goal.returns-then-m-eq0
-returns-then-m-eq0 c = search (step_none, rules)
+pub returns-in-0 : goal.returns-in-0
+returns-in-0 c = step_none _ _ _ _ c.read_bits.ensures c.if-buf-at.false c.in-0.is
 
-pub text_step-requires : goal.text_step-requires
-text_step-requires c = search (digits_16, rules)
+pub returns-in-1 : goal.returns-in-1
+returns-in-1 c = some_found _ _ _ c.map.ensures.cases (step_digits _ _ _ _ _ c.text_step.ensures c.read_bits.ensures c.if-buf-at.false c.in-1.is)
 
-pub returns-then-m-eq1 : goal.returns-then-m-eq1
-returns-then-m-eq1 c = search (step_digits, rules)
+pub returns-in-2 : goal.returns-in-2
+returns-in-2 c = some_found _ _ _ c.map-in-2.ensures.cases (step_pairs _ _ _ _ _ c.text_step-in-2.ensures c.read_bits.ensures c.if-buf-at.false c.in-2.is)
 
-pub text_step-requires-then-m-eq2 : goal.text_step-requires-then-m-eq2
-text_step-requires-then-m-eq2 c = search (pairs_16, rules)
+pub returns-in-4 : goal.returns-in-4
+returns-in-4 c = some_found _ _ _ c.map-in-4.ensures.cases (step_bytes _ _ _ _ _ c.text_step-in-4.ensures c.read_bits.ensures c.if-buf-at.false c.in-4.is)
 
-pub returns-then-m-eq2 : goal.returns-then-m-eq2
-returns-then-m-eq2 c = search (step_pairs, rules)
+pub returns-in-7 : goal.returns-in-7
+returns-in-7 c = some_found _ _ _ c.map-in-7.ensures.cases (step_eci _ _ _ _ _ c.eci_step.ensures c.read_bits.ensures c.if-buf-at.false c.in-7.is)
 
-pub text_step-requires-then-m-eq4 : goal.text_step-requires-then-m-eq4
-text_step-requires-then-m-eq4 c = search (bytes_16, rules)
-
-pub returns-then-m-eq4 : goal.returns-then-m-eq4
-returns-then-m-eq4 c = search (step_bytes, rules)
-
-pub returns-then-m-eq7 : goal.returns-then-m-eq7
-returns-then-m-eq7 c = search (step_eci, rules)
-
-pub returns : goal.returns
-returns c = search (step_other, rules)
+pub returns-in_default : goal.returns-in_default
+returns-in_default c =
+    step_other _ _ _ _ c.read_bits.ensures c.if-buf-at.false (λ e. omega arith) (λ e. omega arith) (λ e. omega arith) (λ e. omega arith) (λ e. omega arith)

@@ -1,17 +1,18 @@
 -- `parser::write::write_group` meets its contract.
 -- Assumes nothing.
-use Rattle.std.proofs.Common.{rules}
-use Rattle.parser.specs.CodeWrites.{digit_lt, group_next, group_start, paste_end}
+use native.Mathlib.Omega.{arith}
+use Rattle.std.proofs.Common.{refl, rules}
+use Rattle.parser.specs.CodeWrites.{group_next, group_whole, digit_lt}
 use Rattle.parser.proofs.write.write_group.Goals as goal
 
-pub loop-j-init : goal.loop-j-init
-loop-j-init c = search (group_start, rules)
+pub loop-i-init : goal.loop-i-init
+loop-i-init c = (refl, omega arith, refl)
 
-pub char_of-c-requires : goal.char_of-c-requires
-char_of-c-requires c = search (digit_lt, rules)
+pub char_of-requires : goal.char_of-requires
+char_of-requires c = digit_lt _ _ _ _ c.digit_of.ensures
 
-pub loop-j-preserved : goal.loop-j-preserved
-loop-j-preserved c = search (group_next, rules)
+pub loop-i-preserved : goal.loop-i-preserved
+loop-i-preserved c = (group_next _ _ _ _ _ _ _ _ c.loop-i.invariant.0 c.digit_of.ensures c.char_of.ensures c.loop-i-test.true refl, omega arith, search rules)
 
 pub returns : goal.returns
-returns c = search (paste_end, rules)
+returns c = group_whole _ _ _ _ _ _ c.loop-i.invariant.0 refl c.loop-i-test.false c.loop-i.invariant.1

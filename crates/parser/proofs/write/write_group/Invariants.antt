@@ -1,14 +1,10 @@
--- `parser::write::write_group` meets its contract.
+-- `parser::write::write_group` meets its contract: the first characters have been written.
 -- Assumes nothing.
-use Prim.Native.Nat.{◌-◌, ◌≤◌}
-use mathlib.Core.Path.{◌≡◌}
-use lib.Seq.{paste}
-use lib.ListN.{length}
+use Rattle.std.proofs.Common.{◌≡◌, ◌≤◌, length}
+use Rattle.parser.specs.Filled.{filled}
+use Rattle.types.specs.Numbers.{text_kind_of}
 use Rattle.segments.specs.Kinds.{group_chars}
 use Rattle.parser.proofs.write.write_group.Given as goal
 
-abbrev pub invariant-loop-j : goal.invariant-loop-j
-invariant-loop-j l = (l.out ≡ paste l.initial.out l.at (group_chars l.kind l.m l.x) l.j) × (l.j ≤ l.m) × (length l.out ≡ length l.initial.out)
-
-abbrev pub decreases-loop-j : goal.decreases-loop-j
-decreases-loop-j l = l.m - l.j
+abbrev pub invariant-loop-i : goal.invariant-loop-i
+invariant-loop-i l = (l.out ≡ filled l.initial.out (group_chars (text_kind_of l.kind) l.m l.x) l.i) × (l.i ≤ l.m) × (length l.out ≡ length l.initial.out)

@@ -1,16 +1,16 @@
--- `parser::write::write_run` meets its contract.
+-- `parser::write::write_run` meets its contract: the first groups have been written, and the others are left.
 -- Assumes nothing.
-use Prim.Native.Nat.{◌+◌, ◌-◌, ◌≤◌}
-use mathlib.Core.Path.{◌≡◌}
-use lib.Seq.{paste}
-use lib.ListN.{length, drop}
+use Rattle.std.proofs.Common.{◌≡◌, ◌-◌, ◌*◌, ◌≤◌, length, drop}
+use Rattle.std.specs.Prelude.{IsOk}
+use Rattle.parser.specs.Filled.{filled}
 use Rattle.standard.specs.Bits.{unpack}
-use Rattle.parser.specs.declared.Groups.TheVariants.{Next}
+use Rattle.types.specs.Numbers.{text_kind_of}
 use Rattle.parser.specs.Runs.{run_end, run_chars}
 use Rattle.parser.proofs.write.write_run.Given as goal
 
-abbrev pub invariant-loop-left : goal.invariant-loop-left
-invariant-loop-left l = (l.out ≡ paste l.initial.out l.to (run_chars l.kind (unpack l.buf) l.count l.at l.count) (l.count - l.left)) × (drop (l.count - l.left) (run_chars l.kind (unpack l.buf) l.count l.at l.count) ≡ run_chars l.kind (unpack l.buf) l.left l.p l.left) × (run_end l.kind (unpack l.buf) l.left l.p l.left ≡ Next l.end) × (l.q + l.left ≡ l.to + l.count) × (l.left ≤ l.count) × (length l.out ≡ length l.initial.out)
-
-abbrev pub decreases-loop-left : goal.decreases-loop-left
-decreases-loop-left l = l.left
+abbrev pub invariant-loop : goal.invariant-loop
+invariant-loop l =
+    (l.out ≡ filled l.initial.out (run_chars (text_kind_of l.kind) (unpack l.buf) (length l.initial.out) l.at (length l.initial.out)) l.q)
+    × (drop l.q (run_chars (text_kind_of l.kind) (unpack l.buf) (length l.initial.out) l.at (length l.initial.out)) ≡ run_chars (text_kind_of l.kind) (unpack l.buf) (length l.initial.out - l.q) l.p (length l.initial.out - l.q))
+    × IsOk (run_end (text_kind_of l.kind) (unpack l.buf) (length l.initial.out - l.q) l.p (length l.initial.out - l.q))
+    × (l.q ≡ l.m * l.counter) × (l.counter ≤ l.end) × (l.p ≤ 8 * length l.buf) × (length l.out ≡ length l.initial.out)

@@ -1,32 +1,18 @@
--- `segments::make::append_groups` meets its contract: a turn appends one group of the run.
+-- `segments::make::append_groups` meets its contract: a turn appends one group of the characters that are left.
 -- Assumes nothing.
 use Rattle.std.proofs.Common.{rules}
-use Rattle.segments.specs.Groups.{groups_start, groups_free, groups_next, groups_end, width_32, part_fits, part_inside, part_on, part_down, part_falls}
+use Rattle.types.specs.Numbers.{text_kind_of}
+use Rattle.segments.specs.Groups.{width_32, groups_free, groups_end}
 use Rattle.segments.proofs.make.append_groups.Goals as goal
 
-pub loop-left-init : goal.loop-left-init
-loop-left-init c = search (groups_start, rules)
-
-pub width_of-w-requires : goal.width_of-w-requires
-width_of-w-requires c = search (part_fits, rules)
-
-pub group_number-x-requires : goal.group_number-x-requires
-group_number-x-requires c = (search rules, search (part_fits, rules), search (part_inside, rules), search rules)
-
 pub append_bits-p-requires : goal.append_bits-p-requires
-append_bits-p-requires c = (search (width_32, rules), search (groups_free, rules))
-
-pub overflow_add-q : goal.overflow_add-q
-overflow_add-q c = search (part_inside, rules)
-
-pub overflow_sub-left : goal.overflow_sub-left
-overflow_sub-left c = search (part_down, rules)
-
-pub loop-left-smaller : goal.loop-left-smaller
-loop-left-smaller c = search (part_falls, rules)
-
-pub loop-left-preserved : goal.loop-left-preserved
-loop-left-preserved c = (search (groups_next, rules), search (part_on, rules), search rules)
+append_bits-p-requires c =
+    let rest = c.loop-group.group-iterator.rest.now in
+    let steps = c.in-Some.ensures.steps in (
+      search (width_32, rules),
+      groups_free (text_kind_of c.args.kind) c.loop-group.group-iterator.size rest c.in-Some.group.now c.next.new.self.rest.now steps.1.0 steps.1.1 c.loop-group.invariant.1 c.args.bb.now c.loop-group.bb c.args.at c.loop-group.p _ c.width_of-w.result c.group_number.result
+          c.loop-group.invariant.0 c.width_of-w.ensures c.group_number.ensures steps.1.2 c.requires.1,
+    )
 
 pub returns : goal.returns
-returns c = search (groups_end, rules)
+returns c = groups_end c.args.bb.now c.loop-group.bb c.args.at c.loop-group.p (text_kind_of c.args.kind) c.loop-group.group-iterator.rest.now _ c.loop-group.invariant.0 c.in-None.ensures.steps.1.0

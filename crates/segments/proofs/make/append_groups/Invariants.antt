@@ -1,13 +1,16 @@
--- `segments::make::append_groups` meets its contract: a turn appends one group of the run.
+-- `segments::make::append_groups` meets its contract: a turn appends one group of the characters that are left.
 -- Assumes nothing.
-use Rattle.std.proofs.Common.{◌≡◌, ◌+◌, length, drop}
+use Rattle.std.proofs.Common.{◌≡◌, T, length}
+use Rattle.standard.specs.Numbers.{every}
+use Rattle.standard.specs.Kinds.{allowed}
+use Rattle.types.specs.Numbers.{text_kind_of}
 use Rattle.bits.specs.Appended.{Progress}
+use Rattle.segments.specs.Kinds.{size}
 use Rattle.segments.specs.Runs.{run_bits}
 use Rattle.segments.proofs.make.append_groups.Given as goal
 
-abbrev pub invariant-loop-left : goal.invariant-loop-left
-invariant-loop-left l =
-    Progress l.initial.bb l.bb l.at l.p (run_bits l.kind (length l.text) (length l.text) l.text) (run_bits l.kind l.left l.left (drop l.q l.text)) × (l.q + l.left ≡ length l.text) × (length l.bb ≡ length l.initial.bb)
-
-abbrev pub decreases-loop-left : goal.decreases-loop-left
-decreases-loop-left l = l.left
+abbrev pub invariant-loop-group : goal.invariant-loop-group
+invariant-loop-group l =
+    let k = text_kind_of l.kind in
+    let rest = l.group-iterator.rest.now in
+    Progress l.initial.bb l.bb l.at l.p (run_bits k (length l.text) (length l.text) l.text) (run_bits k (length rest) (length rest) rest) × (l.group-iterator.size ≡ size k) × T (every (allowed k) rest)

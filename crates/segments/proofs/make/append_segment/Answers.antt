@@ -1,17 +1,14 @@
 -- `segments::make::append_segment` meets its contract: three parts, one after the other.
 -- Assumes nothing.
-use Rattle.segments.specs.Appends.{kind_low, mode_free, count_32, width_32, count_free, payload_free, segment_done}
+use Rattle.segments.specs.Appends.{mode_free, count_32, width_32, count_free, payload_free, segment_done}
 use Rattle.std.proofs.Common.{rules}
 use Rattle.segments.proofs.make.append_segment.Goals as goal
-
-pub mode_of-mode-requires : goal.mode_of-mode-requires
-mode_of-mode-requires c = search (kind_low, rules)
 
 pub append_bits-p-requires : goal.append_bits-p-requires
 append_bits-p-requires c = (search rules, search (mode_free, rules))
 
-pub overflow_cast-chars : goal.overflow_cast-chars
-overflow_cast-chars c = record { fits = search (count_32, rules) }
+pub overflow_cast-count : goal.overflow_cast-count
+overflow_cast-count c = record { fits = search (count_32, rules) }
 
 pub append_bits-q-requires : goal.append_bits-q-requires
 append_bits-q-requires c = (search (width_32, rules), search (count_free, rules))

@@ -5,7 +5,7 @@ use Rattle.std.proofs.Common.{rules}
 use Rattle.segments.proofs.make.make_bytes.Goals as goal
 
 pub append_groups-requires : goal.append_groups-requires
-append_groups-requires c = (search rules, every_byte c.args.«data».now (λ i. (c.type_inv.«data» i).fits), search (bytes_free, rules))
+append_groups-requires c = (every_byte c.args.«data».now (λ i. (c.type_inv.«data» i).fits), search (bytes_free, rules))
 
 pub returns : goal.returns
 returns c = search (bytes_done, rules)

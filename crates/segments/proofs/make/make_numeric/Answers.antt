@@ -5,7 +5,7 @@ use Rattle.std.proofs.Common.{rules}
 use Rattle.segments.proofs.make.make_numeric.Goals as goal
 
 pub append_groups-requires : goal.append_groups-requires
-append_groups-requires c = (search rules, search (every_digit, rules), search (digits_free, rules))
+append_groups-requires c = (search (every_digit, rules), search (digits_free, rules))
 
 pub returns : goal.returns
 returns c = search (digits_done, rules)

@@ -1,14 +1,11 @@
 -- `segments::records::get_total_bits` meets its contract: the total is the bits so far and those of the records that are left.
 -- Assumes nothing.
-use Rattle.std.proofs.Common.{◌≡◌, ◌-◌, ◌*◌, ◌^◌, ◌≤◌}
+use Rattle.std.proofs.Common.{◌≡◌, ◌*◌, ◌^◌, ◌≤◌}
 use Rattle.standard.specs.Segments.{segments_of}
 use Rattle.segments.specs.Records.{parts_of, rest_of}
 use Rattle.segments.specs.Totals.{total_of, more}
 use Rattle.segments.proofs.records.get_total_bits.Given as goal
 
-abbrev pub invariant-loop-i : goal.invariant-loop-i
-invariant-loop-i l =
-    (total_of l.ver.0 (segments_of l.text (parts_of l.records)) ≡ more l.result (total_of l.ver.0 (segments_of l.text (rest_of l.records l.i)))) × (l.i ≤ l.n) × (l.result ≤ l.i * 2 ^ 20)
-
-abbrev pub decreases-loop-i : goal.decreases-loop-i
-decreases-loop-i l = l.n - l.i
+abbrev pub invariant-loop-record : goal.invariant-loop-record
+invariant-loop-record l =
+    (total_of l.ver.value (segments_of l.text (parts_of l.records)) ≡ more l.result (total_of l.ver.value (segments_of l.text (rest_of l.records l.record-index)))) × (l.result ≤ l.record-index * 2 ^ 20)

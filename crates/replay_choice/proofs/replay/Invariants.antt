@@ -1,9 +1,0 @@
--- `replay_choice::replay` meets its contract.
--- Assumes nothing.
-use Rattle.replay_choice.proofs.replay.Given as goal
-
-abbrev pub invariant-loop-turns : goal.invariant-loop-turns
-invariant-loop-turns g l = Unit {0}
-
-abbrev pub decreases-loop-turns : goal.decreases-loop-turns
-decreases-loop-turns g l = l.turns
