@@ -13,7 +13,7 @@ fn show(rt: &impl Print, grid: &[u8], label: Label) -> io::Result<()> {
     let mut memory = [0u8; 53000];
     let mut out = Text::new(&mut memory);
     picture::draw(4 * version as usize + 17, grid, &mut out);
-    caption(&mut out, version, label.level, label.mask.value());
+    caption(&mut out, version, label.level.ordinal(), label.mask.value());
     rt.write_all(out.bytes())
 }
 
@@ -23,7 +23,7 @@ fn make(rt: &impl Print, o: Options, text: &[u8]) -> io::Result<()> {
     let mut scratch = [0u8; 40000];
     let label = encoder::encode_text(
         text,
-        o.level.ordinal() as u8,
+        o.level,
         o.first,
         o.last,
         o.mask,

@@ -7,7 +7,7 @@ use terminal::text::letter;
 // Says why a text has no label, with the refusal's number and details, where the options are asked for.
 pub(crate) fn refused(rt: &impl Print, r: Refusal, o: Options) -> io::Result<()> {
     let version = o.last;
-    let level = char::from(letter(o.level));
+    let level = char::from(letter(o.level as usize));
     match r {
         Refusal::Level(n) => println!(rt; "refusal 1: {n} is no error correction level"),
         Refusal::Versions { first, last } => println!(rt;

@@ -67,7 +67,7 @@ fn tell_label(rt: &impl Print, label: Label, under: &[u8]) -> io::Result<bool> {
     caption(
         &mut out,
         label.version.value(),
-        label.level,
+        label.level.ordinal(),
         label.mask.value(),
     );
     let right = under.is_empty() || under == out.bytes();

@@ -3,16 +3,16 @@
 use Rattle.std.specs.Prelude.{ℕ, Bool, true, Option, None, option_map, cond, List, [], ◌∷◌}
 use Rattle.standard.specs.Numbers.{same}
 use Rattle.types.specs.declared.QrCodeEcc.{QrCodeEcc}
-use Rattle.types.specs.declared.QrCodeEcc.TheVariants.{Medium}
+use Rattle.types.specs.Numbers.{level_of}
 use Rattle.terminal.specs.Words.{versions_named, level_named, mask_named, switch_named}
 use Rattle.terminal.specs.declared.options.Options.{Options}
 
 -- level M, versions 1 to 40, automatic mask, boost
 abbrev pub defaults : Options
-defaults = record { level = Medium; first = 1; last = 40; mask = 8; boost = true }
+defaults = record { level = 1; first = 1; last = 40; mask = 8; boost = true }
 
 abbrev pub with_level : Options → QrCodeEcc → Options
-with_level o l = record o { level = l }
+with_level o l = record o { level = level_of l }
 
 abbrev pub with_versions : Options → ℕ × ℕ → Options
 with_versions o v = record o { first = v.0; last = v.1 }

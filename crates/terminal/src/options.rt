@@ -3,13 +3,12 @@ ghost use Rattle.std.specs.Prelude.{◌≡◌};
 ghost use Rattle.terminal.specs.Choices.{defaults as default_options, chosen as chosen_options};
 
 use super::words::{level_named, mask_named, switch_named, versions_named};
-use types::QrCodeEcc;
 
-// What the encoder is asked for. It refuses versions that are none. Kept (the C interface): mask 8 is the automatic choice, as
-// `encode_text` takes it.
+// What the encoder is asked for. It refuses levels and versions that are none. Kept (the C interface): the level is a number, and
+// mask 8 is the automatic choice, as `encode_text` takes them.
 #[derive(Clone, Copy)]
 pub struct Options {
-    pub level: QrCodeEcc,
+    pub level: u8,
     pub first: u8,
     pub last: u8,
     pub mask: u8,
@@ -21,7 +20,7 @@ pub fn defaults() -> Options
     ensures { result ≡ default_options }
 {
     Options {
-        level: QrCodeEcc::Medium,
+        level: 1,
         first: 1,
         last: 40,
         mask: 8,
@@ -36,7 +35,7 @@ pub fn chosen(o: Options, name: &[u8], value: &[u8]) -> Option<Options>
 {
     if name == b"--level".as_slice() {
         return Some(Options {
-            level: level_named(value)?,
+            level: level_named(value)?.ordinal() as u8,
             ..o
         });
     }

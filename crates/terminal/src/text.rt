@@ -1,10 +1,7 @@
 // Text that is put together in lent memory before it is written: words, numbers, the line under a picture, escaped bytes.
 ghost use Rattle.std.specs.Prelude.{◌≡◌, ◌+◌, ◌*◌, ◌≤◌, ◌<◌, [], ◌∷◌, length, take};
-ghost use Rattle.types.specs.Numbers.{level_of};
 ghost use Rattle.terminal.specs.Text.{decimal, letter as letter_of, caption as caption_of, hex_digit, hexed, escaped_byte, escaped};
 ghost use Rattle.terminal.specs.Adds.{Adds, HasRoom};
-
-use types::QrCodeEcc;
 
 // A text that stands at the start of lent memory.
 #[derive(Drop)]
@@ -65,22 +62,22 @@ fn number(out: &mut Text, n: u8)
     }
 }
 
-// The letter of a level.
-pub fn letter(level: QrCodeEcc) -> u8
-    ensures { result ≡ letter_of (level_of level) }
+// The letter of a level. Kept (this promise): the level is a number, since the answer is for every number.
+pub fn letter(level: usize) -> u8
+    ensures { result ≡ letter_of level }
 {
     match level {
-        QrCodeEcc::Low => b'L',
-        QrCodeEcc::Medium => b'M',
-        QrCodeEcc::Quartile => b'Q',
-        QrCodeEcc::High => b'H',
+        0 => b'L',
+        1 => b'M',
+        2 => b'Q',
+        _ => b'H',
     }
 }
 
-// Puts the line that says which label it is behind a text.
-pub fn caption(out: &mut Text, version: u8, level: QrCodeEcc, mask: u8)
+// Puts the line that says which label it is behind a text. Kept (this promise): the level is a number, as `letter` takes it.
+pub fn caption(out: &mut Text, version: u8, level: usize, mask: u8)
     requires { HasRoom out.old 40 }
-    ensures said { Adds out.old (caption_of version (level_of level) mask) out.new }
+    ensures said { Adds out.old (caption_of version level mask) out.new }
     ensures bound { out.new.len ≤ out.old.len + 40 }
 {
     out.say(b"version ");
