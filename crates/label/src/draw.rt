@@ -1,24 +1,19 @@
 // Draws the label of a text.
 use super::refusals::refused;
+use encoder::Label;
 use std::io;
 use streams::read_full;
 use terminal::options::Options;
 use terminal::text::{Text, caption};
 use terminal::{picture, words};
-use types::{Mask, QrCodeEcc, Version};
 
 // Draws a label and says which one it is.
-fn show(
-    rt: &impl Print,
-    grid: &[u8],
-    version: Version,
-    level: QrCodeEcc,
-    mask: Mask,
-) -> io::Result<()> {
+fn show(rt: &impl Print, grid: &[u8], label: Label) -> io::Result<()> {
+    let version = label.version.value();
     let mut memory = [0u8; 53000];
     let mut out = Text::new(&mut memory);
-    picture::draw(4 * version.value() as usize + 17, grid, &mut out);
-    caption(&mut out, version.value(), level.ordinal(), mask.value());
+    picture::draw(4 * version as usize + 17, grid, &mut out);
+    caption(&mut out, version, label.level.ordinal(), label.mask.value());
     rt.write_all(out.bytes())
 }
 
@@ -26,7 +21,7 @@ fn show(
 fn make(rt: &impl Print, o: Options, text: &[u8]) -> io::Result<()> {
     let mut grid = [0u8; 31329];
     let mut scratch = [0u8; 40000];
-    let outcome = encoder::encode_text(
+    let label = encoder::encode_text(
         text,
         o.level,
         o.first,
@@ -36,8 +31,8 @@ fn make(rt: &impl Print, o: Options, text: &[u8]) -> io::Result<()> {
         &mut grid,
         &mut scratch,
     );
-    match outcome {
-        Ok(label) => show(rt, &grid, label.version, label.level, label.mask),
+    match label {
+        Ok(label) => show(rt, &grid, label),
         Err(r) => refused(rt, r, o),
     }
 }

@@ -4,10 +4,10 @@ ghost use Rattle.records.specs.Reading.{count};
 ghost use Rattle.records.specs.Within.{Within};
 
 use super::refusals::unread;
+use reader::{Label, Refusal};
 use records::Record;
 use std::io;
 use terminal::text::{Text, caption, escape};
-use types::{Mask, QrCodeEcc, Version};
 
 /*---- Segments ----*/
 
@@ -61,16 +61,15 @@ fn tell_segments(rt: &impl Print, n: usize, records: &[Record], text: &[u8]) -> 
 /*---- The label ----*/
 
 // Says which label was read, and returns whether it is the right one. What stands under a picture has to be the line that goes with it.
-fn tell_label(
-    rt: &impl Print,
-    version: Version,
-    level: QrCodeEcc,
-    mask: Mask,
-    under: &[u8],
-) -> io::Result<bool> {
+fn tell_label(rt: &impl Print, label: Label, under: &[u8]) -> io::Result<bool> {
     let mut memory = [0u8; 40];
     let mut out = Text::new(&mut memory);
-    caption(&mut out, version.value(), level.ordinal(), mask.value());
+    caption(
+        &mut out,
+        label.version.value(),
+        label.level.ordinal(),
+        label.mask.value(),
+    );
     let right = under.is_empty() || under == out.bytes();
     if !right {
         rt.print("label: the line under the picture should be: ")?;
@@ -80,26 +79,22 @@ fn tell_label(
 }
 
 // Says which label was read or why there is none, and returns how many segments are to be said.
-fn tell(
-    rt: &impl Print,
-    outcome: Result<reader::Label, reader::Refusal>,
-    under: &[u8],
-) -> io::Result<usize>
-    ensures { IfOk result (λ n. n ≤ count outcome) }
+fn tell(rt: &impl Print, answer: Result<Label, Refusal>, under: &[u8]) -> io::Result<usize>
+    ensures { IfOk result (λ n. n ≤ count answer) }
 {
-    match outcome {
-        Err(r) => {
-            unread(rt, r)?;
-            Ok(0)
-        }
+    match answer {
         Ok(label) => {
-            if !tell_label(rt, label.version, label.level, label.mask, under)? {
+            if !tell_label(rt, label, under)? {
                 return Ok(0);
             }
             if label.records == 0 {
                 rt.print("no segments\n")?;
             }
             Ok(label.records)
+        }
+        Err(r) => {
+            unread(rt, r)?;
+            Ok(0)
         }
     }
 }
@@ -115,7 +110,7 @@ pub(crate) fn read_grid(rt: &impl Print, grid: &[u8], side: usize, under: &[u8])
     let mut text = [0u8; 7089];
     let mut records = [none; 2048];
     let mut scratch = [0u8; 40000];
-    let outcome = records::read(grid, side, &mut text, &mut records, &mut scratch);
-    let n = tell(rt, outcome, under)?;
+    let answer = records::read(grid, side, &mut text, &mut records, &mut scratch);
+    let n = tell(rt, answer, under)?;
     tell_segments(rt, n, &records, &text)
 }

@@ -6,8 +6,8 @@ use Rattle.label.proofs.show.read_grid.Goals as goal
 
 pub tell_segments-requires : goal.tell_segments-requires
 tell_segments-requires g c =
-    let p = read_fits _ _ _ _ _ _ _ _ _ c.read-outcome.ensures in (
-      omega (arith, p.0, c.tell.ensures, c.read-outcome.auto.records),
-      (λ i h. p.1 i (omega (arith, h, c.tell.ensures))),
-      omega (arith, c.read-outcome.auto.text),
+    let p = read_fits _ _ _ _ _ _ _ _ _ c.read-answer.ensures in (
+      omega (arith, p.0, c.read-answer.auto.records),
+      (λ i h. p.1 i (omega (arith, h))),
+      omega (arith, c.read-answer.auto.text),
     )
