@@ -1,4 +1,5 @@
 // A label drawn with the mask that is asked for, or with the automatic choice: the lowest mask of least penalty.
+// (A grid and its packed lines stay lent slices, as in `modules`, and each contract says what they hold.)
 #![tactic(auto)]
 
 ghost use Rattle.std.specs.Prelude.{◌≡◌, ◌*◌, ◌≤◌, length};

@@ -1,6 +1,4 @@
 // The encoder: planning, drawing and the public entries. No entry asks anything of its caller: every input gets a label or one refusal.
-// An entry takes its numbers, text and records, grid and scratch one by one, as the exported functions hand them in; within, the numbers are
-// one `Settings`. A struct of the lent slices would stand in each clause with two moments of each, `lent.entry.grid.new`.
 #![tactic(auto)]
 
 ghost use Rattle.std.specs.Prelude.{◌≡◌, ◌≤◌};

@@ -1,4 +1,4 @@
-// The encoder's answers as numbers; the reader's are in readings.rt, since the C interface has a struct of its own for each.
+// The encoder's answers as numbers.
 ghost use Rattle.std.specs.Prelude.{◌≡◌};
 ghost use Rattle.standard.specs.Encode.{refused as refused_by};
 ghost use Rattle.encoder.specs.Answers.{number_of, answer_of};

@@ -8,7 +8,8 @@ use streams::read_full;
 use terminal::text::Text;
 use terminal::{picture, scan, words};
 
-// How many bytes a text, a grid and what is drawn of it have room for.
+// How many bytes a text, a grid and what is drawn of it have room for. (That a text is no longer stands in
+// four contracts below: a struct of a lent text with that fact would be named with its moment in each.)
 const ROOM: usize = 65536;
 
 // Says that a picture is none of a label.

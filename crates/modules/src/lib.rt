@@ -1,4 +1,6 @@
 // Data modules in the work grid of `patterns`: codewords along the zigzag, masks, and the finished grid.
+// (A grid is a lent slice here, and each contract says that it is square: a struct of a `&mut` has two moments in every clause. `patterns` has
+// one, `Canvas`, for what it draws within.)
 #![tactic(auto)]
 
 mod mask; // mask.rt: the eight masks

@@ -1,4 +1,5 @@
 // The strict reader: what label a grid shows. Function modules and all codewords are compared with what the label draws.
+// (Grid and work stay lent slices, as in `modules`, and each contract says that they are square.)
 #![tactic(auto)]
 
 mod check; // check.rt: the first checks

@@ -94,6 +94,7 @@ pub fn encode_segments_advanced(
 /*---- Numbers to records ----*/
 
 // Writes as many records of the numbers as there is room for, from the start on.
+// (A struct literal, and no `From`: a part of a slice is no array of four, so that a conversion would be longer.)
 fn pack(numbers: &[u64], records: &mut [Record])
     requires { 4 * length records.old ≤ length numbers.now }
     ensures { records.new ≡ packed (length records.old) numbers.now records.old }

@@ -143,6 +143,7 @@ pub(crate) fn segment_of<'a>(text: &'a [u8], numbers: &[u64; 4]) -> Segment<'a>
 }
 
 // Calculates and returns the number of bits needed to encode the given records at the given version.
+// (That every record is good is asked here, in `data_codewords` and within: it speaks of the two slices that callers lend.)
 // There is none if a segment has too many characters to fit its length field.
 #[tactic(auto, using(crate::specs::Records::good_chunk, crate::specs::Totals::totals_start, crate::specs::Totals::totals_next, crate::specs::Totals::totals_long, crate::specs::Totals::totals_end, crate::specs::Fit::total_room, crate::specs::Fit::total_bound))]
 pub fn get_total_bits(text: &[u8], records: &[u64], ver: Version) -> Option<usize>
