@@ -89,7 +89,7 @@ pub fn encode_text(
 ) -> Result<Label, Refusal>
     ensures { record { answer = answer_of result; grid = grid.new; scratch = scratch.new } ≡ encode_text level minversion maxversion mask boostecl text.now grid.old scratch.old }
 {
-    let seg = segments::records::whole_record(segments::text_kind(text), text);
+    let seg = segments::records::whole_record(segments::text_kind(text).number(), text);
     let n = if text.is_empty() { 0 } else { 4 };
     encode_segments_advanced(
         text,
@@ -117,7 +117,7 @@ pub fn encode_binary(
 ) -> Result<Label, Refusal>
     ensures { record { answer = answer_of result; grid = grid.new; scratch = scratch.new } ≡ encode_bytes level minversion maxversion mask boostecl «data».now grid.old scratch.old }
 {
-    let seg = segments::records::whole_record(TextKind::Byte, data);
+    let seg = segments::records::whole_record(TextKind::Byte.number(), data);
     encode_segments_advanced(
         data, &seg, level, minversion, maxversion, mask, boostecl, grid, scratch,
     )

@@ -7,9 +7,10 @@ use Rattle.std.proofs.Math.Path.{ap, subst}
 use mathlib.Core.List.{append_assoc}
 use Rattle.standard.specs.Numbers.{every}
 use Rattle.standard.specs.Bits.{bits}
-use Rattle.standard.specs.Kinds.{mode_bits, count_width, allowed, eci_bits}
+use Rattle.standard.specs.Kinds.{mode_bits, count_width, is_digit, is_alphanumeric, allowed, digit_bits, pair_bits, byte_bits, eci_bits}
 use Rattle.standard.specs.Segments.{Segment, good_segment, payload, segment_bits}
 use Rattle.types.specs.declared.TextKind.{TextKind}
+use Rattle.types.specs.declared.TextKind.TheVariants.{Numeric, Alphanumeric, Byte}
 use Rattle.types.specs.Numbers.{text_kind_of}
 use Rattle.types.specs.Laws.{text_kind_lt}
 use Rattle.laws.specs.Tests.{and_right}
@@ -59,6 +60,45 @@ module _ (seg : Named) (kind : TextKind) (chars : Bor (List ℕ)) (is : seg ≡ 
 
   pub text_done : (buf new : List ℕ) (at r : ℕ) → Appended buf new at r (run_bits (text_kind_of kind) (length chars.now) (length chars.now) chars.now) → Appended buf new at r (payload (meaning seg))
   text_done buf new at r h = subst (λ (s : Named). Appended buf new at r (payload (meaning s))) (sym is) (chars_done (text_kind_of kind) chars.now 0 (text_kind_lt kind) buf new at r h)
+
+-- the payload of each kind, by the function that appends it
+module _ (seg : Named) (chars : Bor (List ℕ)) where
+  pub of_kind : {k j : TextKind} → seg ≡ Text k chars → k ≡ j → seg ≡ Text j chars
+  of_kind is e = is ∙ ap (λ (i : TextKind). Text i chars) e
+
+  pub digits_of : seg ≡ Text Numeric chars → T (good_segment (meaning seg)) → T (every is_digit chars.now)
+  unfolding allowed
+  digits_of is t = text_allowed seg Numeric chars is t
+
+  pub alphanumerics_of : seg ≡ Text Alphanumeric chars → T (good_segment (meaning seg)) → T (every is_alphanumeric chars.now)
+  unfolding allowed
+  alphanumerics_of is t = text_allowed seg Alphanumeric chars is t
+
+  module _ (buf : List ℕ) (at : ℕ) (f : Free buf at (payload (meaning seg))) where
+    pub digits_free : seg ≡ Text Numeric chars → Free buf at (digit_bits chars.now)
+    unfolding payload
+    digits_free is = subst (λ (s : Named). Free buf at (payload (meaning s))) is f
+
+    pub pairs_free : seg ≡ Text Alphanumeric chars → Free buf at (pair_bits chars.now)
+    unfolding payload
+    pairs_free is = subst (λ (s : Named). Free buf at (payload (meaning s))) is f
+
+    pub bytes_free : seg ≡ Text Byte chars → Free buf at (byte_bits chars.now)
+    unfolding payload
+    bytes_free is = subst (λ (s : Named). Free buf at (payload (meaning s))) is f
+
+  module _ (buf new : List ℕ) (at r : ℕ) where
+    pub digits_done : seg ≡ Text Numeric chars → Appended buf new at r (digit_bits chars.now) → Appended buf new at r (payload (meaning seg))
+    unfolding payload
+    digits_done is h = subst (λ (s : Named). Appended buf new at r (payload (meaning s))) (sym is) h
+
+    pub pairs_done : seg ≡ Text Alphanumeric chars → Appended buf new at r (pair_bits chars.now) → Appended buf new at r (payload (meaning seg))
+    unfolding payload
+    pairs_done is h = subst (λ (s : Named). Appended buf new at r (payload (meaning s))) (sym is) h
+
+    pub bytes_done : seg ≡ Text Byte chars → Appended buf new at r (byte_bits chars.now) → Appended buf new at r (payload (meaning seg))
+    unfolding payload
+    bytes_done is h = subst (λ (s : Named). Appended buf new at r (payload (meaning s))) (sym is) h
 
 module _ (seg : Named) (assign : ℕ) (is : seg ≡ Eci assign) where
   pub eci_number : T (good_segment (meaning seg)) → assign < 1_000_000

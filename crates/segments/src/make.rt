@@ -91,7 +91,11 @@ fn append_payload(bb: &mut [u8], at: usize, seg: Segment) -> usize
     ensures { Appended bb.old bb.new at result (payload (meaning seg.entry)) }
 {
     match seg {
-        Segment::Text { kind, chars } => append_groups(bb, at, kind, chars),
+        Segment::Text { kind, chars } => match kind {
+            TextKind::Numeric => make_numeric(bb, at, chars),
+            TextKind::Alphanumeric => make_alphanumeric(bb, at, chars),
+            TextKind::Byte => make_bytes(bb, at, chars),
+        },
         Segment::Eci(assignval) => make_eci(bb, at, assignval),
     }
 }

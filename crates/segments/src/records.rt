@@ -91,12 +91,12 @@ fn eci_bits(assignval: u32) -> usize
     }
 }
 
-// The numbers of one record of the given kind that names the whole text.
+// The numbers of one record of the kind with the given number, whichever it is, that names the whole text.
 #[tactic(auto, unfolding(crate::specs::Records::parts_of))]
-pub fn whole_record(kind: TextKind, text: &[u8]) -> [u64; 4]
-    ensures { parts_of result ≡ whole (text_kind_of kind) text.now }
+pub fn whole_record(kind: u8, text: &[u8]) -> [u64; 4]
+    ensures { parts_of result ≡ whole kind text.now }
 {
-    [kind.number() as u64, 0, text.len() as u64, 0]
+    [kind as u64, 0, text.len() as u64, 0]
 }
 
 // Tests whether a record is as it should be: its kind and fields, its part inside the text, and each character one of its kind.

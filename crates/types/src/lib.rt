@@ -217,6 +217,19 @@ impl Mask {
     }
 }
 
+// The level of a number that is known to be one. (Where the number may be anything, `try_from` answers.)
+pub fn level_at(n: u8) -> QrCodeEcc
+    requires { n ≤ 3 }
+    ensures { level_of result ≡ n }
+{
+    match n {
+        0 => QrCodeEcc::Low,
+        1 => QrCodeEcc::Medium,
+        2 => QrCodeEcc::Quartile,
+        _ => QrCodeEcc::High,
+    }
+}
+
 // The version of a number that is known to be one.
 pub fn version_at(n: u8) -> Version
     requires { (1 ≤ n) × (n ≤ 40) }
