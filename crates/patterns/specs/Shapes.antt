@@ -3,7 +3,7 @@
 use Rattle.std.specs.Prelude.{ℕ, ◌+◌, ◌-◌, ◌≤◌, ◌<◌, min, Bool, true, false, cond, not, ◌||◌, List, ◌≡◌, refl, leb, ltb, eqb}
 use Rattle.std.proofs.Common.{ap, ◌∙◌, arith, le-leb, eqb-true}
 use Rattle.std.proofs.lemmas.Bool.{lt-leb}
-use Rattle.standard.specs.Numbers.{one}
+use Rattle.standard.specs.Numbers.{one, apart}
 use Rattle.standard.specs.Patterns.{ring}
 use Rattle.laws.specs.Grid.{Pattern, Square, on, paint, scan, scan_start, scan_end}
 use Rattle.laws.specs.Dots.{dot}
@@ -24,6 +24,10 @@ square r rule cx cy x y v = cond (leb (ring x y cx cy) r) (2 + one (rule (ring x
 abbrev pub Rules : (ℕ → Bool → Type 0) → ℕ → (ℕ → Bool) → Type 0
 Rules post r rule = (d : ℕ) (b : Bool) → d ≤ r → post d b → b ≡ rule d
 
+-- place d of five, the third of which is x, is as far from x as d is from 2
+pub shifted : (x d : ℕ) → 2 ≤ x → apart d 2 ≡ apart (x + d - 2) x
+shifted x d h = omega arith
+
 -- row y up to column n, and the rows up to n
 pub cells_done : ℕ → ℕ → Pattern → Pattern
 cells_done y n p = on (λ a b. eqb b y) (on (λ a b. ltb a n) p)
@@ -32,7 +36,7 @@ pub rows_done : ℕ → Pattern → Pattern
 rows_done n p = on (λ a b. ltb b n) p
 
 module _ (size r : ℕ) (rule : ℕ → Bool) (cx cy : ℕ) (g : List ℕ) where
-  off : (x y v : ℕ) → r < ring x y cx cy → square r rule cx cy x y v ≡ v
+  pub off : (x y v : ℕ) → r < ring x y cx cy → square r rule cx cy x y v ≡ v
   unfolding square
   off x y v h = rw (lt-leb _ _ h)
 

@@ -1,5 +1,5 @@
 // Alignment patterns.
-ghost use Rattle.std.specs.Prelude.{◌≡◌, ◌<◌};
+ghost use Rattle.std.specs.Prelude.{◌≡◌, ◌+◌, ◌<◌, ◌≤◌};
 ghost use Rattle.standard.specs.Sizes.{side};
 ghost use Rattle.patterns.specs.Layers.{alignments};
 ghost use Rattle.patterns.specs.Shapes.{alignment_square};
@@ -21,11 +21,17 @@ fn on_corner(numalign: usize, i: usize, j: usize) -> bool
 impl Canvas<'_> {
     // Draws a 5*5 alignment pattern, with the center module
     // at (x, y). All modules must be in bounds.
+    // Kept: two loops of five turns (speed: in `draw_square` the compiler does not see how many turns there are).
     fn draw_alignment_pattern(&mut self, x: usize, y: usize)
-        requires { (x < self.old.size) × (y < self.old.size) }
+        requires { (2 ≤ x) × (2 ≤ y) × (x + 2 < self.old.size) × (y + 2 < self.old.size) }
         ensures { Paints self.old self.new (alignment_square x y) }
     {
-        self.draw_square(x, y, 2, |dist| dist != 1);
+        for dy in 0..5usize {
+            for dx in 0..5usize {
+                let dist = dx.abs_diff(2).max(dy.abs_diff(2));
+                self.set_function_module(x + dx - 2, y + dy - 2, dist != 1);
+            }
+        }
     }
 
     // Draws numerous alignment patterns, at the positions of the given version.

@@ -91,7 +91,8 @@ impl Canvas<'_> {
         }
     }
 
-    // Draws two copies of the format bits, and the module that is always dark.
+    // Draws two copies of the format bits, and the module that is always dark. (Inlined, so that grid and side are no struct in memory.)
+    #[inline(always)]
     pub fn draw_format(&mut self, ver: Version, ecl: QrCodeEcc, mask: Mask)
         requires { self.old.size ≡ side ver.value }
         ensures { Paints self.old self.new (formats (side ver.value) (format_word (level_of ecl) mask.value)) }

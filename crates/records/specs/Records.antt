@@ -34,6 +34,16 @@ fields r = r.kind ∷ r.start ∷ r.length ∷ r.assign ∷ []
 
 -- ---- records to numbers
 
+-- four stores, one after the other
+pub four_put : (r : Record) (f l : List ℕ) → f ≡ fields r → length l ≡ 4
+    → set (set (set (set l 0 (get_or f 0 0)) 1 (get_or f 1 0)) 2 (get_or f 2 0)) 3 (get_or f 3 0) ≡ fields r
+four_put r f (a ∷ b ∷ c ∷ d ∷ []) e h = rw e
+four_put r f [] e h = absurd (omega arith)
+four_put r f (a ∷ []) e h = absurd (omega arith)
+four_put r f (a ∷ b ∷ []) e h = absurd (omega arith)
+four_put r f (a ∷ b ∷ c ∷ []) e h = absurd (omega arith)
+four_put r f (a ∷ b ∷ c ∷ d ∷ x ∷ xs) e h = absurd (omega arith)
+
 -- the numbers of the first n records are written from the start on
 unfoldable pub unpacked : ℕ → List Record → List ℕ → List ℕ
 unpacked n rs l = take (4 * n) (numbers_of (parts rs)) ++ drop (4 * n) l

@@ -34,14 +34,25 @@ impl From<Record> for [u64; 4] {
 
 /*---- Records to numbers ----*/
 
+// Stores the four numbers of a record. (Four stores: a copy of an array into a part of a slice takes several times as long.)
+fn put(place: &mut [u64], r: Record)
+    requires { length place.old ≡ 4 }
+    ensures { place.new ≡ fields r }
+{
+    let four = <[u64; 4]>::from(r);
+    place[0] = four[0];
+    place[1] = four[1];
+    place[2] = four[2];
+    place[3] = four[3];
+}
+
 // Writes the numbers of all records, from the start on.
 fn unpack(records: &[Record], numbers: &mut [u64])
     requires { 4 * length records.now ≤ length numbers.old }
     ensures { numbers.new ≡ unpacked (length records.now) records.now numbers.old }
 {
     for (i, r) in records.iter().enumerate() {
-        let four = <[u64; 4]>::from(*r);
-        numbers[4 * i..4 * i + 4].copy_from_slice(&four);
+        put(&mut numbers[4 * i..4 * i + 4], *r);
     }
 }
 

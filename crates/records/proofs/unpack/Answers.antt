@@ -12,5 +12,5 @@ loop-i-init c = none_unpacked _ _
 pub loop-i-preserved : goal.loop-i-preserved
 loop-i-preserved c =
     let l = c.loop-i in
-    ap (λ (ns : List ℕ). put_mid (4 * l.i) (4 * l.i + 4 - 4 * l.i) ns c.copy_from_slice.new.self) l.invariant
-    ∙ more_unpacked c.args.records.now c.args.numbers.now c.requires l.i _ _ c.loop-i-test.true (omega arith) (c.copy_from_slice.ensures.after ∙ c.from-four.ensures)
+    ap (λ (ns : List ℕ). put_mid (4 * l.i) (4 * l.i + 4 - 4 * l.i) ns c.put.new.place) l.invariant
+    ∙ more_unpacked c.args.records.now c.args.numbers.now c.requires l.i _ _ c.loop-i-test.true (omega arith) c.put.ensures

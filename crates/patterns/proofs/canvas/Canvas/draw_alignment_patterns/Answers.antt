@@ -1,6 +1,6 @@
 -- `draw_alignment_patterns` draws the alignment layer, centre by centre.
 -- Assumes nothing.
-use Rattle.std.proofs.Common.{rules, arith, refl, sym, ◌∙◌}
+use Rattle.std.proofs.Common.{rules, refl, sym, ◌∙◌}
 use Rattle.patterns.specs.Centres.{inside}
 use Rattle.patterns.specs.AlignmentLayer.{row_start, row_next, rows_start, turn, no_turn, next_row, all_rows}
 use Rattle.patterns.specs.Everything.{square_is}
@@ -21,7 +21,9 @@ draw_alignment_pattern-requires c =
     let r = c.args.ver.in_range in
     let p = c.get_alignment_pattern_positions-alignpatpos.ensures in
     let k = c.loop-j.invariant.size ∙ c.loop-i.invariant.size ∙ c.requires in
-    (omega (arith, (inside _ _ _ r.0 r.1 p _ c.loop-i-test.true _ k).1), omega (arith, (inside _ _ _ r.0 r.1 p _ c.loop-j-test.true _ k).1))
+    let i = inside _ _ _ r.0 r.1 p _ c.loop-i-test.true _ k in
+    let j = inside _ _ _ r.0 r.1 p _ c.loop-j-test.true _ k in
+    (i.0, j.0, i.1, j.1)
 
 pub loop-j-preserved : goal.loop-j-preserved
 loop-j-preserved c =
