@@ -5,7 +5,7 @@
 ghost use Rattle.std.specs.Prelude.{◌+◌, ◌≤◌, ◌<◌, ◌^◌, length};
 
 use std::env::{Env, FillError};
-use std::io;
+use streams::say;
 use terminal::options;
 use terminal::options::Options;
 use terminal::text::{Text, escape};
@@ -26,43 +26,43 @@ enum Asked {
 }
 
 // Writes a word of the command line, escaped.
-fn word(rt: &impl Print, w: &[u8]) -> io::Result<()>
+fn word(rt: &impl Print, w: &[u8])
     requires { length w.now ≤ 16 }
 {
     let mut memory = [0u8; 64];
     let mut out = Text::new(&mut memory);
     escape(&mut out, w);
-    rt.write_all(out.bytes())
+    let _ = rt.write_all(out.bytes());
 }
 
 // Says which words are not understood.
-fn not_understood(rt: &impl Print, what: &str, name: &[u8], value: &[u8]) -> io::Result<Asked>
+fn not_understood(rt: &impl Print, what: &str, name: &[u8], value: &[u8]) -> Asked
     requires { (length name.now ≤ 16) × (length value.now ≤ 16) }
 {
-    rt.print(what)?;
-    word(rt, name)?;
-    rt.print(" ")?;
-    word(rt, value)?;
-    rt.print("\n\n")?;
-    Ok(Asked::NotUnderstood)
+    say!(rt; what);
+    word(rt, name);
+    say!(rt; " ");
+    word(rt, value);
+    say!(rt; "\n\n");
+    Asked::NotUnderstood
 }
 
 // What is asked for after the option of a name and its value.
-fn option_value(rt: &impl Print, o: Options, name: &[u8], value: &[u8]) -> io::Result<Asked>
+fn option_value(rt: &impl Print, o: Options, name: &[u8], value: &[u8]) -> Asked
     requires { (length name.now ≤ 16) × (length value.now ≤ 16) }
 {
     match options::chosen(o, name, value) {
-        Some(next) => Ok(Asked::Draw(next)),
+        Some(next) => Asked::Draw(next),
         None => not_understood(rt, "label: not understood: ", name, value),
     }
 }
 
 // What is asked for after the option of a name, which is word i.
-fn option_named(rt: &(impl Env + Print), o: Options, i: usize, name: &[u8]) -> io::Result<Asked>
+fn option_named(rt: &(impl Env + Print), o: Options, i: usize, name: &[u8]) -> Asked
     requires { (i + 1 < 2 ^ 64) × (length name.now ≤ 16) }
 {
     if name == b"--help".as_slice() {
-        return Ok(Asked::Help);
+        return Asked::Help;
     }
     let mut value = [0u8; 16];
     match rt.arg(i + 1, &mut value) {
@@ -83,15 +83,15 @@ fn option_named(rt: &(impl Env + Print), o: Options, i: usize, name: &[u8]) -> i
 }
 
 // What is asked for after the words i and i + 1.
-fn option_pair(rt: &(impl Env + Print), o: Options, i: usize) -> io::Result<Asked>
+fn option_pair(rt: &(impl Env + Print), o: Options, i: usize) -> Asked
     requires { i + 1 < 2 ^ 64 }
 {
     let mut name = [0u8; 16];
     match rt.arg(i, &mut name) {
         Ok(n) => option_named(rt, o, i, &name[..n]),
         Err(_) => {
-            rt.print("label: not understood: a word of more than 16 letters\n\n")?;
-            Ok(Asked::NotUnderstood)
+            say!(rt; "label: not understood: a word of more than 16 letters\n\n");
+            Asked::NotUnderstood
         }
     }
 }
@@ -113,32 +113,27 @@ fn is_word(rt: &impl Env, i: usize, word: &[u8]) -> bool {
 }
 
 // What the command line asks for, up to the first words that are not understood.
-fn command(rt: &(impl Env + Print)) -> io::Result<Asked> {
+fn command(rt: &(impl Env + Print)) -> Asked {
     let words = word_count(rt);
     if words == 2 && is_word(rt, 1, b"read") {
-        return Ok(Asked::Read);
+        return Asked::Read;
     }
     let mut o = options::defaults();
     for k in 0..words / 2 {
-        match option_pair(rt, o, 2 * k + 1)? {
+        match option_pair(rt, o, 2 * k + 1) {
             Asked::Draw(next) => o = next,
-            other => return Ok(other),
+            other => return other,
         }
     }
-    Ok(Asked::Draw(o))
+    Asked::Draw(o)
 }
 
-// Does what the command line asks for.
-fn run(rt: &(impl Env + Input + Print)) -> io::Result<()> {
-    match command(rt)? {
-        Asked::Draw(o) => draw::read_text(rt, o),
-        Asked::Read => read::read_label(rt),
-        Asked::Help => rt.print(help::HELP),
-        Asked::NotUnderstood => rt.print(help::USAGE),
-    }
-}
-
-// A write that fails ends the program, with status 0: what reads the output is gone then.
+// Does what the command line asks for. A write that fails is let go, and the next is tried (`streams::say`).
 fn main(rt: HostRuntime) {
-    let _ = run(&rt);
+    match command(&rt) {
+        Asked::Draw(o) => draw::read_text(&rt, o),
+        Asked::Read => read::read_label(&rt),
+        Asked::Help => help::help(&rt),
+        Asked::NotUnderstood => help::usage(&rt),
+    }
 }

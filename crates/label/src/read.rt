@@ -3,8 +3,7 @@ ghost use Rattle.std.specs.Prelude.{◌≡◌, ◌*◌, ◌≤◌, ◌<◌, leng
 ghost use Rattle.terminal.specs.Scan.{side_of, Begins};
 
 use super::show::read_grid;
-use std::io;
-use streams::read_full;
+use streams::{read_full, say};
 use terminal::text::Text;
 use terminal::{picture, scan, words};
 
@@ -13,15 +12,15 @@ use terminal::{picture, scan, words};
 const ROOM: usize = 65536;
 
 // Says that a picture is none of a label.
-fn no_picture(rt: &impl Print) -> io::Result<()> {
-    rt.print("label: this begins like a picture, and label draws no such picture\n")
+fn no_picture(rt: &impl Print) {
+    say!(rt; "label: this begins like a picture, and label draws no such picture\n");
 }
 
 // Reads the picture of a grid at the start of a text, and returns the place after it, if there is one. It is a picture if it is
 // drawn so again.
 fn picture_end(text: &[u8], side: usize, grid: &mut [u8], work: &mut [u8; ROOM]) -> Option<usize>
     requires { (side ≡ side_of text.now) × (0 < side) × (side ≤ 177) × (length grid.old ≡ side * side) × (length text.now ≤ 65536) }
-    ensures { MatchOption result (Begins text.now side 0 grid.new) (λ end. Begins text.now side end grid.new × (end ≤ length text.now)) }
+    ensures { MatchOption result (Begins text.now side 0 grid.new) (λ end. Begins text.now side end grid.new × (0 < end) × (end ≤ length text.now)) }
 {
     let mut halves = Text::new(work);
     scan::halves(text, &mut halves);
@@ -29,10 +28,10 @@ fn picture_end(text: &[u8], side: usize, grid: &mut [u8], work: &mut [u8; ROOM])
     let mut drawn = Text::new(work);
     picture::draw(side, grid, &mut drawn);
     let picture = drawn.bytes();
-    if text.starts_with(picture) {
-        return Some(picture.len());
+    if !text.starts_with(picture) {
+        return None;
     }
-    None
+    Some(picture.len())
 }
 
 // Reads the label of a picture.
@@ -41,7 +40,7 @@ fn read_picture(
     text: &[u8],
     grid: &mut [u8; ROOM],
     work: &mut [u8; ROOM],
-) -> io::Result<()>
+)
     requires { length text.now ≤ 65536 }
 {
     let side = match scan::side_of(text) {
@@ -57,7 +56,7 @@ fn read_picture(
 }
 
 // Reads the label of rows of a side, as many as there are.
-fn read_even(rt: &impl Print, text: &[u8], side: usize, grid: &mut [u8; ROOM]) -> io::Result<()>
+fn read_even(rt: &impl Print, text: &[u8], side: usize, grid: &mut [u8; ROOM])
     requires { (0 < side) × (side ≤ 65536) × (length text.now ≤ 65536) }
 {
     let lines = (text.len() + 1) / (side + 1);
@@ -75,23 +74,21 @@ fn line_of(p: usize, side: usize) -> usize
 }
 
 // Says that the line of a place has not the length of the first one.
-fn uneven_line(rt: &impl Print, p: usize, side: usize) -> io::Result<()>
+fn uneven_line(rt: &impl Print, p: usize, side: usize)
     requires { (p ≤ 65536) × (side ≤ 65536) }
 {
-    println!(rt;
-        "label: line {} has not as many characters as line 1",
-        line_of(p, side)
-    )
+    say!(rt; "label: line ", line_of(p, side), " has not as many characters as line 1\n");
 }
 
 // Reads the label of lines, without the newline after the last one.
-fn read_lines(rt: &impl Print, text: &[u8], grid: &mut [u8; ROOM]) -> io::Result<()>
+fn read_lines(rt: &impl Print, text: &[u8], grid: &mut [u8; ROOM])
     requires { length text.now ≤ 65536 }
 {
     let end = text.len();
     let side = words::place(b'\n', text).unwrap_or(end);
     if side == 0 {
-        return rt.print("label: line 1 is empty\n");
+        say!(rt; "label: line 1 is empty\n");
+        return;
     }
     match scan::uneven(side, text) {
         Some(p) => uneven_line(rt, p, side),
@@ -102,14 +99,14 @@ fn read_lines(rt: &impl Print, text: &[u8], grid: &mut [u8; ROOM]) -> io::Result
 
 // Reads a label from standard input: a picture, which begins with a colour code, or rows. No picture and no rows of a label take
 // as many bytes as there is room for.
-pub(crate) fn read_label(rt: &(impl Input + Print)) -> io::Result<()> {
+pub(crate) fn read_label(rt: &(impl Input + Print)) {
     let mut text = [0u8; ROOM];
     let mut grid = [0u8; ROOM];
     let mut work = [0u8; ROOM];
     let n = read_full(&mut rt.reader(), &mut text);
     match &text[..n] {
-        [] => rt.print("label: there is nothing to read\n"),
-        _ if n == ROOM => rt.print("label: this is longer than a label\n"),
+        [] => say!(rt; "label: there is nothing to read\n"),
+        _ if n == ROOM => say!(rt; "label: this is longer than a label\n"),
         [b'\x1b', ..] => read_picture(rt, &text[..n], &mut grid, &mut work),
         _ => read_lines(rt, words::line(&text[..n]), &mut grid),
     }

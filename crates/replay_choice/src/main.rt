@@ -26,10 +26,10 @@ struct Same {
 
 fn main(rt: HostRuntime) {
     let t = replay(&mut rt.reader());
-    let _ = println!(rt; "compared in full: {}", t.full);
-    let _ = println!(rt; "compared by digests: {}", t.digests);
-    let _ = println!(rt; "other masks: {}", t.masks);
-    let _ = println!(rt; "other grids: {}", t.grids);
+    streams::say!(rt; "compared in full: ", t.full, "\n");
+    streams::say!(rt; "compared by digests: ", t.digests, "\n");
+    streams::say!(rt; "other masks: ", t.masks, "\n");
+    streams::say!(rt; "other grids: ", t.grids, "\n");
 }
 
 // All lines.

@@ -172,5 +172,5 @@ fn main(rt: HostRuntime) {
             others += 1;
         }
     }
-    let _ = println!(rt; "{cases} lists of data codewords parsed, {others} answers differ");
+    streams::say!(rt; cases, " lists of data codewords parsed, ", others, " answers differ\n");
 }

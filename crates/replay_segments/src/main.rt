@@ -148,10 +148,7 @@ fn all(input: &mut impl Read) -> Counts {
 
 fn main(rt: HostRuntime) {
     let c = all(&mut rt.reader());
-    let _ = println!(rt; "{} payloads compared", c.payloads);
-    let _ = println!(rt;
-        "{} lists of records compared: total bits and data codewords",
-        c.lists
-    );
-    let _ = println!(rt; "{} differ", c.differ);
+    streams::say!(rt; c.payloads, " payloads compared\n");
+    streams::say!(rt; c.lists, " lists of records compared: total bits and data codewords\n");
+    streams::say!(rt; c.differ, " differ\n");
 }

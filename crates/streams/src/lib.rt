@@ -53,6 +53,14 @@ pub fn read_line<R: Read>(input: &mut R, line: &mut [u8]) -> Option<usize>
     Some(line.len())
 }
 
+// Writes pieces, each by itself: one whose write fails is let go, and the next is tried.
+#[macro_export]
+macro_rules! say {
+    ($rt:expr; $($piece:expr),+ $(,)?) => {{
+        $( let _ = $rt.print($piece); )+
+    }};
+}
+
 // Writes words.
 pub fn say(rt: &impl Print, words: &[u8]) {
     let _ = rt.write_all(words);

@@ -57,6 +57,14 @@ module _ (side : ℕ) (g : List ℕ) where
       = ap (λ (k : ℕ). join (from 0 k f) ++ rest) n ∙ append_assoc (line side g 0) (join (from 1 ((side + 9) / 2 - 1) f)) rest in
       ap (place 10) e ∙ first_line (join (from 1 ((side + 9) / 2 - 1) f) ++ rest)
 
+-- no picture is empty
+pub picture_some : (side : ℕ) (g d : List ℕ) → d ≡ picture side g → 0 < length d
+picture_some side g d e = go d (ap (λ (l : List ℕ). place 10 (l ++ [])) e ∙ picture_side side g [])
+  where
+    go : (l : List ℕ) → place 10 (l ++ []) ≡ side + 21 → 0 < length l
+    go [] p = omega (arith, p)
+    go (x ∷ xs) p = omega arith
+
 -- ---- a text that begins with a picture
 
 one_small : (b : Bool) → one b < 2

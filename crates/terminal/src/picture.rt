@@ -1,20 +1,22 @@
 // The picture of a label in a terminal. Each line sets both colours, so that it reads on a dark screen and on a light one.
-ghost use Rattle.std.specs.Prelude.{◌≡◌, ◌+◌, ◌≤◌, length};
+ghost use Rattle.std.specs.Prelude.{◌≡◌, ◌+◌, ◌≤◌};
 ghost use Rattle.terminal.specs.Adds.{Adds, HasRoom};
 ghost use Rattle.terminal.specs.Picture.{shown as shown_at, glyph as glyph_of, characters as characters_of, line as line_of, picture as picture_of};
 
 use super::text::Text;
 
-// The character of two modules: a space, or the lower half, the upper half or the whole dark.
-fn glyph(upper: u8, lower: u8) -> &'static [u8]
-    ensures value { result.now ≡ glyph_of upper lower }
-    ensures bound { length result.now ≤ 3 }
+// Puts the character of two modules behind a text: a space, or the lower half, the upper half or the whole dark.
+#[inline(always)]
+fn glyph(out: &mut Text, upper: u8, lower: u8)
+    requires { HasRoom out.old 3 }
+    ensures said { Adds out.old (glyph_of upper lower) out.new }
+    ensures bound { out.new.len ≤ out.old.len + 3 }
 {
     match (upper, lower) {
-        (0, 0) => b" ",
-        (0, _) => b"\xe2\x96\x84",
-        (_, 0) => b"\xe2\x96\x80",
-        _ => b"\xe2\x96\x88",
+        (0, 0) => out.say(b" "),
+        (0, _) => out.say(b"\xe2\x96\x84"),
+        (_, 0) => out.say(b"\xe2\x96\x80"),
+        _ => out.say(b"\xe2\x96\x88"),
     }
 }
 
@@ -41,6 +43,7 @@ impl Picture<'_> {
     }
 
     // Puts the characters that show rows y and y + 1 behind a text.
+    #[inline(always)]
     fn characters(&self, y: usize, out: &mut Text)
         requires { (y ≤ 185) × HasRoom out.old 555 }
         ensures said { Adds out.old (characters_of self.now.side self.now.grid.now y (self.now.side + 8)) out.new }
@@ -49,19 +52,23 @@ impl Picture<'_> {
         for x in 0..self.side + 8 {
             let upper = self.shown(x, y);
             let lower = self.shown(x, y + 1);
-            out.say(glyph(upper, lower));
+            glyph(out, upper, lower);
         }
     }
 
-    // Puts the line of text that shows rows y and y + 1 behind a text.
+    // Puts the line of text that shows rows y and y + 1 behind a text. It is put together in an array of its own,
+    // so that the compiler keeps the place in it in a register.
     fn line(&self, y: usize, out: &mut Text)
         requires { (y ≤ 185) × HasRoom out.old 569 }
         ensures said { Adds out.old (line_of self.now.side self.now.grid.now y) out.new }
         ensures bound { out.new.len ≤ out.old.len + 569 }
     {
-        out.say(b"\x1b[30;107m");
-        self.characters(y, out);
-        out.say(b"\x1b[0m\n");
+        let mut memory = [0u8; 569];
+        let mut line = Text::new(&mut memory);
+        line.say(b"\x1b[30;107m");
+        self.characters(y, &mut line);
+        line.say(b"\x1b[0m\n");
+        out.say(line.bytes());
     }
 }
 

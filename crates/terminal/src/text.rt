@@ -21,6 +21,7 @@ impl<'a> Text<'a> {
     }
 
     // Puts a byte behind the text.
+    #[inline(always)]
     pub fn push(&mut self, c: u8)
         requires { HasRoom self.old 1 }
         ensures { Adds self.old (c ∷ []) self.new }
@@ -28,7 +29,8 @@ impl<'a> Text<'a> {
         self.say(&[c]);
     }
 
-    // Puts words behind the text.
+    // Puts words behind the text. (Inlined: a copy of so many bytes as stand in the program is a store or two.)
+    #[inline(always)]
     pub fn say(&mut self, words: &[u8])
         requires { HasRoom self.old (length words.now) }
         ensures { Adds self.old words.now self.new }
