@@ -33,7 +33,7 @@ pub gather_start : (bs : List ℕ) (k : ℕ) → 0 ≡ field (unpack bs) (8 * k)
 unfolding value_from
 gather_start bs k = refl
 
-gather_next : (bs : List ℕ) (k j r b : ℕ) → r ≡ field (unpack bs) (8 * k) (8 * j) → b ≡ get_or bs (k + j) 0 → b < 256 → k + j < length bs
+pub gather_next : (bs : List ℕ) (k j r b : ℕ) → r ≡ field (unpack bs) (8 * k) (8 * j) → b ≡ get_or bs (k + j) 0 → b < 256 → k + j < length bs
     → r * 256 + b ≡ field (unpack bs) (8 * k) (8 * (j + 1))
 gather_next bs k j r b er eb small room =
     let u : List ℕ = unpack bs in
@@ -47,7 +47,7 @@ gather_next bs k j r b er eb small room =
     ∙ ap₂ value_from (sym er) last ∙ value_bits r 8 b in
     omega (arith, all, mod-eq_of_lt small)
 
-gather_fits : (bs : List ℕ) (k j r b : ℕ) → r ≡ field (unpack bs) (8 * k) (8 * j) → k + j ≤ length bs → j < 5 → b < 256 → r * 256 + b < 2 ^ 64
+pub gather_fits : (bs : List ℕ) (k j r b : ℕ) → r ≡ field (unpack bs) (8 * k) (8 * j) → k + j ≤ length bs → j < 5 → b < 256 → r * 256 + b < 2 ^ 64
 gather_fits bs k j r b e room h small =
     let l : r < 2 ^ 32
     = subst (λ (n : ℕ). n < 2 ^ 32) (sym e)

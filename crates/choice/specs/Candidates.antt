@@ -71,7 +71,7 @@ pub record Scored (v l : ℕ) (g h : List ℕ) (n k m : ℕ) : Type 0 where
   pub scored : (ws : List ℕ) → Kept v ws g → Best 0xFFFF_FFFF (λ i. penalty (side v) (grid v l i (content v ws))) n k m × Kept v ws h
 
 module _ (v l : ℕ) (g : List ℕ) where
-  scored_start : Scored v l g g 0 0 0xFFFF_FFFF
+  pub scored_start : Scored v l g g 0 0 0xFFFF_FFFF
   scored_start = record { small = omega arith; size = refl; scored = λ ws kept. (best_start 0xFFFF_FFFF _ 0 0xFFFF_FFFF refl, kept) }
 
   -- candidate n is scored p; it is better, or it is not

@@ -197,7 +197,7 @@ get_d_step_in low high r b j h =
     ∙ get_d_tabulate 32 (stepped low high r (bit_xor b (get_or r 0 0))) j 0 h
 
 -- the code's loop ends before the last place, which stays
-front_step_in : (low high r : List ℕ) (b : ℕ) → front 32 (step_in low high r b) r ≡ step_in low high r b
+pub front_step_in : (low high r : List ℕ) (b : ℕ) → front 32 (step_in low high r b) r ≡ step_in low high r b
 unfolding step_in
 front_step_in low high r b =
     let t = tabulate 32 (stepped low high r (bit_xor b (get_or r 0 0))) in

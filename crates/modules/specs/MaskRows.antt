@@ -148,7 +148,7 @@ row_done m y n g h i e six room is =
 pub rows_start : (m size : ℕ) (g : List ℕ) → g ≡ each_done (0 * size) (in_row m size) g
 rows_start m size g = each_start (in_row m size) g ∙ ap (λ (n : ℕ). each_done n (in_row m size) g) (sym (zero-mul size))
 
-row_room : (size y n : ℕ) → y < 12 → n ≡ 12 * size → y * size + size ≤ n
+pub row_room : (size y n : ℕ) → y < 12 → n ≡ 12 * size → y * size + size ≤ n
 row_room size y n h e =
     let w : (y + 1) * size ≤ 12 * size = mul-le-mul_right size (omega arith) in
     omega (arith, add-mul y 1 size)

@@ -116,12 +116,12 @@ packed_three f s x y z h ex ey ez =
     ∙ packed3 f 60 64 (s - 124) refl refl ∙ ap (λ (n : ℕ). value (frame (tabulate n f))) (is (60 + (64 + (s - 124))) s (omega arith))
 
 -- masks
-mask_two : (k : ℕ) → 64 ≤ k → join3 18446744073709551615 (low (k - 64)) 0 ≡ low k
+pub mask_two : (k : ℕ) → 64 ≤ k → join3 18446744073709551615 (low (k - 64)) 0 ≡ low k
 unfolding join3
 mask_two k h = is ((0 * 2 ^ 64 + low (k - 64)) * 2 ^ 64 + 18446744073709551615) (low (k - 64) * 2 ^ 64 + 18446744073709551615) (omega arith)
     ∙ sym (ones_split (k - 64) 64) ∙ ap low (omega arith)
 
-mask_three : (k : ℕ) → 128 ≤ k → join3 18446744073709551615 18446744073709551615 (low (k - 128)) ≡ low k
+pub mask_three : (k : ℕ) → 128 ≤ k → join3 18446744073709551615 18446744073709551615 (low (k - 128)) ≡ low k
 unfolding join3
 mask_three k h =
     ap (λ (n : ℕ). n * 2 ^ 64 + 18446744073709551615) (sym (ones_split (k - 128) 64) ∙ ap low (is (k - 128 + 64) (k - 64) (omega arith)))

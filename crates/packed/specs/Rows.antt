@@ -107,7 +107,7 @@ module _ (s : ℕ) (g : List ℕ) where
         darks = sym (zero-add d) ∙ sum_next (λ k. sum (row s (colours g) k)) 0 0 d refl (row_dark 0 last d e h);
       }
 
-  passed_next : (y last cost same dark next c q d : ℕ) → Passed y last cost same dark → next ≡ value (frame (row s (colours g) (y + 1)))
+  pub passed_next : (y last cost same dark next c q d : ℕ) → Passed y last cost same dark → next ≡ value (frame (row s (colours g) (y + 1)))
       → c ≡ line_cost s (line_of s next) → d ≡ ones next → q ≡ squares_of (line_of s last) (line_of s next)
       → Passed (y + 1) next (cost + c) (same + q) (dark + d)
   passed_next y last cost same dark next c q d p e f h i =

@@ -131,7 +131,7 @@ module _ (v : ℕ) (g : List ℕ) where
       e ∙ rw (le_antisymm l m) (scan_end (side v) g sq.size (λ x y. true) (λ x y. which_of v x) (centres v) (alignments v) (λ x y w hx hy o. off_x v low high x y w hx hy o))
 
 -- version 1 has none
-none_at_1 : (x y w : ℕ) → alignments 1 x y w ≡ w
+pub none_at_1 : (x y w : ℕ) → alignments 1 x y w ≡ w
 unfolding layer on_alignment alignment nearest
 none_at_1 x y w = refl
 
