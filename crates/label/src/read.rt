@@ -35,12 +35,7 @@ fn picture_end(text: &[u8], side: usize, grid: &mut [u8], work: &mut [u8; ROOM])
 }
 
 // Reads the label of a picture.
-fn read_picture(
-    rt: &impl Print,
-    text: &[u8],
-    grid: &mut [u8; ROOM],
-    work: &mut [u8; ROOM],
-)
+fn read_picture(rt: &impl Print, text: &[u8], grid: &mut [u8; ROOM], work: &mut [u8; ROOM])
     requires { length text.now ≤ 65536 }
 {
     let side = match scan::side_of(text) {

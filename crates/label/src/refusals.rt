@@ -33,7 +33,13 @@ pub(crate) fn refused(rt: &impl Print, r: Refusal, o: Options) {
                 "refusal 7: the text needs ", bits, " bits, and version ", version, " at level ", level, " holds ", capacity, "\n"
             );
         }
-        Refusal::GridShort(n) => one(rt, 8, "the grid is shorter than the ", n, " modules of the label"),
+        Refusal::GridShort(n) => one(
+            rt,
+            8,
+            "the grid is shorter than the ",
+            n,
+            " modules of the label",
+        ),
         Refusal::ScratchShort(n) => one(rt, 9, "the scratch memory is shorter than ", n, " bytes"),
         Refusal::DataLength(n) => one(rt, 10, "the label takes ", n, " data codewords"),
     }
@@ -44,12 +50,36 @@ pub(crate) fn unread(rt: &impl Print, r: reader::Refusal) {
     match r {
         reader::Refusal::Side(n) => one(rt, 11, "", n, " modules are the side of no label"),
         reader::Refusal::Length(n) => one(rt, 12, "a label of this side has ", n, " modules"),
-        reader::Refusal::Byte(n) => one(rt, 13, "module ", n, ", counted from 0, is neither 0 nor 1"),
-        reader::Refusal::Scratch => one(rt, 9, "the scratch memory is shorter than ", 40000, " bytes"),
+        reader::Refusal::Byte(n) => one(
+            rt,
+            13,
+            "module ",
+            n,
+            ", counted from 0, is neither 0 nor 1",
+        ),
+        reader::Refusal::Scratch => one(
+            rt,
+            9,
+            "the scratch memory is shorter than ",
+            40000,
+            " bytes",
+        ),
         reader::Refusal::NoLabel => {
             say!(rt; "refusal 14: no label has these modules\n");
         }
-        reader::Refusal::Text(n) => one(rt, 15, "the text has ", n, " bytes, more than there is room for"),
-        reader::Refusal::Records(n) => one(rt, 16, "the label has ", n, " segments, more than there is room for"),
+        reader::Refusal::Text(n) => one(
+            rt,
+            15,
+            "the text has ",
+            n,
+            " bytes, more than there is room for",
+        ),
+        reader::Refusal::Records(n) => one(
+            rt,
+            16,
+            "the label has ",
+            n,
+            " segments, more than there is room for",
+        ),
     }
 }

@@ -14,9 +14,9 @@ returns c =
     let d = c.bytes-picture.result.now in
     let q = c.bytes-picture.ensures ∙ said_part c.draw.ensures.said.0 c.new-drawn.ensures.empty in
     let b =
-      begins_end
-      (begins_drawn t c.bytes.result.now d c.args.grid.now c.scan.new.grid c.args.side c.starts_with.result
-      (c.starts_with.ensures.value ∙ starts_begins t d) q c.scan.ensures (search rules) c.if-not-starts_with.false (search rules) (search rules)) in
+    begins_end
+    (begins_drawn t c.bytes.result.now d c.args.grid.now c.scan.new.grid c.args.side c.starts_with.result
+    (c.starts_with.ensures.value ∙ starts_begins t d) q c.scan.ensures (search rules) c.if-not-starts_with.false (search rules) (search rules)) in
     (b.0, picture_some c.args.side c.scan.new.grid d q, b.1)
 
 pub returns-then-not-starts_with : goal.returns-then-not-starts_with
